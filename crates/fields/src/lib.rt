@@ -1,0 +1,112 @@
+// Big-endian numbers, unsigned and in two's complement: the file format's header fields, pointers and integer values.
+//
+// Every reader is handed the part of the bytes that begins at its number, takes as many bytes as its name says and
+// leaves the rest. It is total: where the part ends early, the bytes that are there spell the number. From the Rust:
+// be_i48.rs, and the numbers that it takes from nom, under nom's names.
+ghost use mathlib.Core.Path.{_≡_};
+ghost use Prim.Native.Nat.{_*_, _^_, _≤_, _<_};
+ghost use lib.Signed.{mag};
+ghost use Rattle.fields.specs.Fields.{twos, unsigned, signed};
+
+// The number that the first `width` bytes spell.
+fn spelt(part: &[u8], width: usize) -> u64
+    requires { ⌜ width ≤ 8 ⌝ }
+    ensures { λ r. ⌜ (r ≡ unsigned width (now (part .entry))) × (r < 256 ^ width) ⌝ }
+{
+    let mut value: u64 = 0;
+    let mut i: usize = 0;
+    while i < width {
+        if part.len() <= i {
+            return value;
+        }
+        value = value * 256 + part[i] as u64;
+        i += 1;
+    }
+    value
+}
+
+pub fn be_u16(part: &[u8]) -> u16
+    ensures { λ r. ⌜ r ≡ unsigned 2 (now (part .entry)) ⌝ }
+{
+    spelt(part, 2) as u16
+}
+
+pub fn be_u32(part: &[u8]) -> u32
+    ensures { λ r. ⌜ r ≡ unsigned 4 (now (part .entry)) ⌝ }
+{
+    spelt(part, 4) as u32
+}
+
+pub fn be_u64(part: &[u8]) -> u64
+    ensures { λ r. ⌜ r ≡ unsigned 8 (now (part .entry)) ⌝ }
+{
+    spelt(part, 8)
+}
+
+// The weight of the top bit in a field of one byte, of two, and so on to eight.
+const TOPS: [u64; 8] = [
+    0x80,
+    0x8000,
+    0x80_0000,
+    0x8000_0000,
+    0x80_0000_0000,
+    0x8000_0000_0000,
+    0x80_0000_0000_0000,
+    0x8000_0000_0000_0000,
+];
+
+// The number whose two's complement is `v`, where `top` is the weight of the top bit.
+fn from_twos(v: u64, top: u64) -> i64
+    requires { ⌜ (v < 2 * top) × (top ≤ 2 ^ 63) ⌝ }
+    ensures { λ r. ⌜ (r ≡ twos (2 * top) v) × (mag r < top) ⌝ }
+{
+    if v < top {
+        v as i64
+    } else {
+        -1 - ((top - 1 - (v - top)) as i64)
+    }
+}
+
+// The number in two's complement that the first `width` bytes spell.
+fn signed_spelt(part: &[u8], width: usize) -> i64
+    requires { ⌜ (1 ≤ width) × (width ≤ 8) ⌝ }
+    ensures { λ r. ⌜ (r ≡ signed width (now (part .entry))) × (2 * mag r < 256 ^ width) ⌝ }
+{
+    from_twos(spelt(part, width), TOPS[width - 1])
+}
+
+pub fn be_i8(part: &[u8]) -> i8
+    ensures { λ r. ⌜ r ≡ signed 1 (now (part .entry)) ⌝ }
+{
+    signed_spelt(part, 1) as i8
+}
+
+pub fn be_i16(part: &[u8]) -> i16
+    ensures { λ r. ⌜ r ≡ signed 2 (now (part .entry)) ⌝ }
+{
+    signed_spelt(part, 2) as i16
+}
+
+pub fn be_i24(part: &[u8]) -> i32
+    ensures { λ r. ⌜ r ≡ signed 3 (now (part .entry)) ⌝ }
+{
+    signed_spelt(part, 3) as i32
+}
+
+pub fn be_i32(part: &[u8]) -> i32
+    ensures { λ r. ⌜ r ≡ signed 4 (now (part .entry)) ⌝ }
+{
+    signed_spelt(part, 4) as i32
+}
+
+pub fn be_i48(part: &[u8]) -> i64
+    ensures { λ r. ⌜ r ≡ signed 6 (now (part .entry)) ⌝ }
+{
+    signed_spelt(part, 6)
+}
+
+pub fn be_i64(part: &[u8]) -> i64
+    ensures { λ r. ⌜ r ≡ signed 8 (now (part .entry)) ⌝ }
+{
+    signed_spelt(part, 8)
+}

@@ -1,0 +1,3 @@
+-- Laws that the proofs of other crates cite.
+pub mod Table
+pub mod Powers

@@ -1,0 +1,2 @@
+-- Words that the definitions of all crates share.
+pub mod Pick

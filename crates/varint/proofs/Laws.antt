@@ -1,0 +1,56 @@
+-- What callers cite of varints: how long one is, that a longer limit finds what a shorter one does, and no more of that
+-- length; and that bytes behind a varint do not matter.
+use Prim.Native.Nat.{ℕ, zero, suc, _+_, _≤_, _<_}
+use mathlib.Core.Path.{_≡_, refl}
+use mathlib.Core.Logic.{_↔_}
+use mathlib.Core.List.{List, [], _∷_, _++_}
+use native.Mathlib.Omega.{arith}
+use lib.ListN.{length}
+use Rattle.varint.specs.declared.Varint.the-variants.{Value}
+use Rattle.varint.specs.Varint.{varintOf}
+use Rattle.varint.proofs.Found.{Reads, ninth, last, next, found, is-found}
+
+took : {k n v x m : ℕ} {s : List ℕ} → n ≤ 8 → Reads x m k n v s → (n < m) × (m ≤ n + k) × (m ≤ n + length s) × (m ≤ 9)
+took l (ninth h p q) = omega arith
+took l (last h b p q) = omega arith
+took l (next h b r) = let t = took (omega arith) r in omega arith
+
+widened : {k n v x m : ℕ} {s : List ℕ} (j : ℕ) → k ≤ j → Reads x m k n v s → Reads x m j n v s
+widened zero l (ninth h p q) = absurd (omega arith)
+widened zero l (last h b p q) = absurd (omega arith)
+widened zero l (next h b r) = absurd (omega arith)
+widened (suc j) l (ninth h p q) = ninth h p q
+widened (suc j) l (last h b p q) = last h b p q
+widened (suc j) l (next h b r) = next h b (widened j (omega arith) r)
+
+narrowed : {j n v x m : ℕ} {s : List ℕ} (k : ℕ) → n ≤ 8 → m ≤ n + k → Reads x m j n v s → Reads x m k n v s
+narrowed zero l t r = let u = took l r in absurd (omega arith)
+narrowed (suc k) l t (ninth h p q) = ninth h p q
+narrowed (suc k) l t (last h b p q) = last h b p q
+narrowed (suc k) l t (next h b r) = next h b (narrowed k (omega arith) (omega arith) r)
+
+continued : {k n v x m : ℕ} {s : List ℕ} (z : List ℕ) → Reads x m k n v s → Reads x m k n v (s ++ z)
+continued z (ninth h p q) = ninth h p q
+continued z (last h b p q) = last h b p q
+continued z (next h b r) = next h b (continued z r)
+
+module _ (s : List ℕ) {x m : ℕ} where
+  -- a varint takes one byte at least, and no more than the limit, the bytes there are, and nine
+  pub length-bounds : (limit : ℕ) → varintOf limit s ≡ Value x m → (1 ≤ m) × (m ≤ limit) × (m ≤ length s) × (m ≤ 9)
+  length-bounds limit e = let t = took {n = 0} (omega arith) (found limit 0 0 s e) in omega arith
+
+  pub longer-limit : (k j : ℕ) → k ≤ j → varintOf k s ≡ Value x m → varintOf j s ≡ Value x m
+  longer-limit k j h e = is-found (widened j h (found k 0 0 s e))
+
+  pub shorter-limit : (k j : ℕ) → m ≤ k → varintOf j s ≡ Value x m → varintOf k s ≡ Value x m
+  shorter-limit k j h e = is-found (narrowed k (omega arith) (omega arith) (found j 0 0 s e))
+
+  pub bytes-behind : (limit : ℕ) (z : List ℕ) → varintOf limit s ≡ Value x m → varintOf limit (s ++ z) ≡ Value x m
+  bytes-behind limit z e = is-found (continued z (found limit 0 0 s e))
+
+  -- the reading of nine bytes finds a varint of at most five exactly where that of five finds it
+  pub five-of-nine : (varintOf 5 s ≡ Value x m) ↔ ((varintOf 9 s ≡ Value x m) × (m ≤ 5))
+  five-of-nine = (
+    (λ e. (longer-limit 5 9 (omega arith) e, length-bounds 5 e .1)),
+    (λ h. shorter-limit 5 9 (h .1) (h .0)),
+  )

@@ -1,0 +1,58 @@
+// Varints: numbers of 64 bits in one to nine bytes, the most significant first.
+//
+// Each byte gives its low seven bits, and reading stops at the first byte whose top bit is clear; the ninth byte gives
+// all its eight bits and ends the number. From the file format, 1.6 "B-tree Pages", and the Rust's varint.rs, which
+// stops at five bytes: how many may be read is a parameter, and one function serves both readings.
+ghost use mathlib.Core.Path.{_≡_};
+ghost use Rattle.varint.specs.Varint.{varintOf};
+
+pub enum Varint {
+    // The number, and how many bytes it took.
+    Value { value: u64, length: usize },
+    // No number.
+    Unfinished(Cause),
+}
+
+pub enum Cause {
+    // The bytes end before the number does.
+    CutShort,
+    // The number goes on past the bytes that may be read.
+    WithoutEnd,
+}
+
+// How many bytes the old reading takes at most.
+pub const OLD_LIMIT: usize = 5;
+
+// How many bytes the format has at most.
+pub const FILE_LIMIT: usize = 9;
+
+// Reads the varint of at most `limit` bytes at the slice's first byte.
+pub fn read(s: &[u8], limit: usize) -> Varint
+    ensures { λ r. ⌜ r ≡ varintOf limit (now (s .entry)) ⌝ }
+{
+    let mut value: u64 = 0;
+    let mut i: usize = 0;
+    loop {
+        if limit <= i {
+            break Varint::Unfinished(Cause::WithoutEnd);
+        }
+        if s.len() <= i {
+            break Varint::Unfinished(Cause::CutShort);
+        }
+        let b = s[i] as u64;
+        if i == 8 {
+            break Varint::Value {
+                value: value * 256 + b,
+                length: 9,
+            };
+        }
+        if b < 128 {
+            break Varint::Value {
+                value: value * 128 + b,
+                length: i + 1,
+            };
+        }
+        value = value * 128 + b % 128;
+        i += 1;
+    }
+}
