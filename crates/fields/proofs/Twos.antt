@@ -5,10 +5,9 @@ use native.Mathlib.Nat.{zero-add}
 use native.Mathlib.Omega.{arith}
 use lib.IntN.{ℤ, pos, negsuc, _-ℤ_}
 use borrow.Author.Tests.{lt-ltb, le-ltb}
-use mir.Syntax.{Width, w64}
-use lib.Signed.{mag}
-use mir.Val.{SFits, toZ, ofZ}
-use mir.Facts.{toZ-pos, toZ-ofZ}
+use mir.Syntax.{w64}
+use mir.Val.{toZ}
+use mir.Facts.{toZ-pos}
 use Rattle.fields.specs.Fields.{twos}
 
 module _ (top v : ℕ) where
@@ -29,14 +28,3 @@ minus-one (suc n) = ap negsuc (ap suc (zero-add n))
 -- as the code has it, at 64 bits
 pub minus : (n : ℕ) → n < 2 ^ 63 → negsuc 0 -ℤ toZ w64 n ≡ negsuc n
 minus n h = rw (toZ-pos w64 h) (minus-one n)
-
--- a number of 64 bits that fits a narrower width is the same there
-module _ (w : Width) (z : ℤ) (wide : mag z < 2 ^ 63) where
-  pub as-wide : toZ w64 (ofZ w64 z) ≡ z
-  as-wide = toZ-ofZ {w = w64} {z = z} (record { sfits = wide })
-
-  pub narrow-fits : SFits w z → SFits w (toZ w64 (ofZ w64 z))
-  narrow-fits fits = rw as-wide fits
-
-  pub narrow : SFits w z → toZ w (ofZ w (toZ w64 (ofZ w64 z))) ≡ z
-  narrow fits = rw as-wide (toZ-ofZ {w = w} {z = z} fits)

@@ -1,3 +1,4 @@
 -- Laws that the proofs of other crates cite.
 pub mod Table
 pub mod Powers
+pub mod Casts

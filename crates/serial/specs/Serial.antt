@@ -1,0 +1,26 @@
+-- Serial types and their widths: the table of the file format's section 2.1, "Record Format".
+--
+--   0 null         1 to 6 integers of 1, 2, 3, 4, 6, 8 bytes     7 a real of 8 bytes     8, 9 the integers 0 and 1
+--   10, 11 reserved     even from 12: a blob of (n - 12)/2 bytes     odd from 13: a text of (n - 13)/2 bytes
+use Prim.Native.Nat.{ℕ, _-_, _/_, _%_}
+use mathlib.Core.List.{List, [], _∷_}
+use mathlib.Core.Bool.{Bool}
+use lib.Dec.{ltb, eqb}
+use lib.ListN.{getD}
+use Rattle.laws.specs.Pick.{pick}
+use Rattle.serial.specs.declared.Width.{Width}
+use Rattle.serial.specs.declared.Width.the-variants.{Bytes, Reserved}
+
+-- the widths of types 0 to 9
+abbrev pub widths : List ℕ
+widths = 0 ∷ 1 ∷ 2 ∷ 3 ∷ 4 ∷ 6 ∷ 8 ∷ 8 ∷ 0 ∷ 0 ∷ []
+
+-- from 12 on
+abbrev pub isBlob : ℕ → Bool
+isBlob kind = eqb (kind % 2) 0
+
+abbrev pub lengthOf : ℕ → ℕ
+lengthOf kind = pick (isBlob kind) ((kind - 12) / 2) ((kind - 13) / 2)
+
+unfoldable pub widthOf : ℕ → Width
+widthOf kind = pick (ltb kind 10) (Bytes (getD widths kind 0)) (pick (ltb kind 12) Reserved (Bytes (lengthOf kind)))

@@ -1,0 +1,73 @@
+-- Which patterns are a NaN's, and what the long types of both readings come to.
+use Prim.Native.Nat.{ℕ, _+_, _%_, _≤_, _<_}
+use mathlib.Core.Path.{_≡_, refl, sym, _∙_}
+use mathlib.Core.List.{List}
+use mathlib.Core.Bool.{true, not}
+use native.Mathlib.Omega.{arith}
+use lib.Dec.{T}
+use lib.IntN.{pos}
+use lib.Ieee.{Float, nan, inf, fin, binary64, ofBits, nanBits, isNan, div}
+use lib.Ieee.Bits.{nanBits-is, nanBits-above}
+use borrow.Author.Tests.{lt-ltb, le-ltb, ne-eqb}
+use Rattle.values.specs.File as file
+use Rattle.values.specs.Old as old
+use Rattle.values.specs.declared.old.Value.the-variants.{I8}
+
+-- the largest pattern, without its sign, that is no NaN's: infinity's
+abbrev infinity : ℕ
+infinity = 0x7ff0_0000_0000_0000
+
+abbrev unsigned-bits : ℕ → ℕ
+unsigned-bits bits = bits % 0x8000_0000_0000_0000
+
+pub no-nan : (bits : ℕ) → unsigned-bits bits ≤ infinity → T (not (nanBits binary64 bits))
+no-nan bits h = rw (nanBits-above binary64 bits, le-ltb infinity (unsigned-bits bits) h) tt
+
+is-nan : (x : Float) → isNan x ≡ true → x ≡ nan
+unfolding isNan
+is-nan nan e = refl
+is-nan (inf s) e = let z : _≡_ {A = ℕ} 0 1 = cc in absurd (omega arith)
+is-nan (fin s m k) e = let z : _≡_ {A = ℕ} 0 1 = cc in absurd (omega arith)
+
+pub the-nan : (bits : ℕ) → infinity < unsigned-bits bits → div binary64 (ofBits binary64 0) (ofBits binary64 0) ≡ ofBits binary64 bits
+unfolding div ofBits
+the-nan bits h =
+    sym (is-nan (ofBits binary64 bits) (sym (nanBits-is binary64 bits) ∙ nanBits-above binary64 bits ∙ lt-ltb infinity (unsigned-bits bits) h))
+
+-- what is none of the numbers up to n is past it
+pub past : (n : ℕ) {k : ℕ} → n ≤ k → (k ≡ n → ⊥) → n + 1 ≤ k
+past n h e = omega arith
+
+-- past the types of fixed width
+module _ (kind at : ℕ) (s : List ℕ) (h : 10 ≤ kind) where
+  pub file-long : file.valueOf kind at s ≡ file.longOf kind at
+  unfolding file.valueOf
+  file-long =
+      rw (ne-eqb kind 0 (omega arith), le-ltb kind 7 (omega arith), ne-eqb kind 7 (omega arith), ne-eqb kind 8 (omega arith), ne-eqb kind 9 (omega arith))
+
+  pub old-long : old.valueOf kind at s ≡ old.longOf kind at
+  unfolding old.valueOf
+  old-long =
+      rw (
+        ne-eqb kind 0 (omega arith),
+        ne-eqb kind 1 (omega arith),
+        ne-eqb kind 2 (omega arith),
+        le-ltb kind 5 (omega arith),
+        le-ltb kind 7 (omega arith),
+        ne-eqb kind 7 (omega arith),
+        le-ltb kind 10 (omega arith),
+      )
+
+-- the types that hold no bytes and are integers
+pub old-constant : (kind at : ℕ) (s : List ℕ) → 8 ≤ kind → kind < 10 → old.valueOf kind at s ≡ I8 (pos 0)
+unfolding old.valueOf
+old-constant kind at s h l =
+    rw (
+      ne-eqb kind 0 (omega arith),
+      ne-eqb kind 1 (omega arith),
+      ne-eqb kind 2 (omega arith),
+      le-ltb kind 5 (omega arith),
+      le-ltb kind 7 (omega arith),
+      ne-eqb kind 7 (omega arith),
+      lt-ltb kind 10 l,
+    )
