@@ -29,6 +29,12 @@ pub enum Reason {
     NoSuchColumn,
 }
 
+// What a run of checks comes to.
+pub enum Checked {
+    Passed,
+    Failed(Reason),
+}
+
 // What is wrong with a cell.
 pub enum Fault {
     PointerOutside,

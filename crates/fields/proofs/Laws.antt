@@ -2,12 +2,15 @@
 use Prim.Native.Nat.{ℕ, zero, suc, _+_, _-_, _*_, _^_, _≤_, _<_}
 use mathlib.Core.Path.{_≡_, refl, sym, ap, _∙_}
 use mathlib.Core.List.{List, [], _∷_}
-use native.Mathlib.Nat.{pow-succ', add-mul, mul-assoc, add-assoc, mul-one, add-zero, zero-mul, zero-add}
+use native.Mathlib.Nat.{pow-succ', add-mul, mul-assoc, add-assoc, mul-one, add-zero, zero-mul, zero-add, min-le-left}
 use native.Mathlib.Numerals.{add-one}
 use native.Mathlib.Omega.{arith}
-use lib.ListN.{length, take, drop, getD, drop-of-length-le}
-use lib.Seq.{drop-cons, take-nil}
-use Rattle.fields.specs.Fields.{be}
+use lib.Arith.{digits-lt}
+use lib.Dec.{lit<}
+use lib.ListN.{length, take, drop, getD, drop-of-length-le, length-take}
+use lib.Seq.{drop-cons, take-nil, getD-drop}
+use Rattle.laws.proofs.Powers.{digits-within}
+use Rattle.fields.specs.Fields.{be, unsigned}
 
 -- v, and then the bytes of s behind it: what a reader holds on its way
 unfoldable pub spells : ℕ → List ℕ → ℕ
@@ -38,3 +41,29 @@ module _ (s : List ℕ) (w i v : ℕ) where
 
   pub cut : length s ≤ i → spells v (take (w - i) (drop i s)) ≡ v
   cut h = rw (drop-of-length-le s h, take-nil (w - i)) (spells-nil v)
+
+-- THE BOUND: bytes are below 256, so w of them spell a number below 256 to the w
+
+abbrev pub Bytes : List ℕ → Type 0
+Bytes s = (i : ℕ) → getD s i 0 < 256
+
+be-below : (s : List ℕ) → Bytes s → be s < 256 ^ length s
+unfolding be
+be-below [] bytes = lit< tt
+be-below (b ∷ s) bytes =
+    let rest = be-below s (λ i. bytes (suc i)) in
+    rw pow-succ' (digits-lt (bytes 0) rest)
+
+pub bytes-take : (n : ℕ) (s : List ℕ) → Bytes s → Bytes (take n s)
+bytes-take zero s bytes i = lit< tt
+bytes-take (suc n) [] bytes i = lit< tt
+bytes-take (suc n) (b ∷ s) bytes zero = bytes 0
+bytes-take (suc n) (b ∷ s) bytes (suc i) = bytes-take n s (λ j. bytes (suc j)) i
+
+pub unsigned-below : (w : ℕ) (s : List ℕ) → Bytes s → unsigned w s < 256 ^ w
+unsigned-below w s bytes =
+    digits-within 256 (length (take w s)) w (lit< tt) (rw (length-take w s) (min-le-left w (length s)))
+    (be-below (take w s) (bytes-take w s bytes))
+
+pub bytes-drop : (n : ℕ) (s : List ℕ) → Bytes s → Bytes (drop n s)
+bytes-drop n s bytes i = rw (getD-drop n s i 0) (bytes (n + i))

@@ -110,3 +110,10 @@ pub fn be_i64(part: &[u8]) -> i64
 {
     signed_spelt(part, 8)
 }
+
+// The number whose two's complement in 64 bits is `v`.
+pub fn signed_of(v: u64) -> i64
+    ensures { λ r. ⌜ r ≡ twos (2 ^ 64) v ⌝ }
+{
+    from_twos(v, 0x8000_0000_0000_0000)
+}

@@ -2,3 +2,4 @@
 pub mod Table
 pub mod Powers
 pub mod Casts
+pub mod Parts

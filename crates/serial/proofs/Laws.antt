@@ -7,8 +7,9 @@ use lib.Dec.{eqb}
 use lib.ListN.{getD}
 use borrow.Author.Tests.{lt-ltb, le-ltb, eqb-false}
 use Rattle.laws.specs.Pick.{pick}
+use Rattle.tables.specs.Tables.{widths}
 use Rattle.serial.specs.declared.Width.the-variants.{Bytes, Reserved}
-use Rattle.serial.specs.Serial.{widths, lengthOf, widthOf}
+use Rattle.serial.specs.Serial.{lengthOf, widthOf}
 
 -- a text's length and a blob's are one sum
 pub length-either : (kind : ℕ) → 12 ≤ kind → (kind - 12) / 2 ≡ lengthOf kind

@@ -3,17 +3,13 @@
 --   0 null         1 to 6 integers of 1, 2, 3, 4, 6, 8 bytes     7 a real of 8 bytes     8, 9 the integers 0 and 1
 --   10, 11 reserved     even from 12: a blob of (n - 12)/2 bytes     odd from 13: a text of (n - 13)/2 bytes
 use Prim.Native.Nat.{ℕ, _-_, _/_, _%_}
-use mathlib.Core.List.{List, [], _∷_}
 use mathlib.Core.Bool.{Bool}
 use lib.Dec.{ltb, eqb}
 use lib.ListN.{getD}
 use Rattle.laws.specs.Pick.{pick}
+use Rattle.tables.specs.Tables.{widths}
 use Rattle.serial.specs.declared.Width.{Width}
 use Rattle.serial.specs.declared.Width.the-variants.{Bytes, Reserved}
-
--- the widths of types 0 to 9
-abbrev pub widths : List ℕ
-widths = 0 ∷ 1 ∷ 2 ∷ 3 ∷ 4 ∷ 6 ∷ 8 ∷ 8 ∷ 0 ∷ 0 ∷ []
 
 -- from 12 on
 abbrev pub isBlob : ℕ → Bool

@@ -4,15 +4,13 @@
 // answered here.
 ghost use mathlib.Core.Path.{_≡_};
 ghost use Rattle.serial.specs.Serial.{widthOf};
+use tables::WIDTHS;
 
 pub enum Width {
     Bytes(u64),
     // Types 10 and 11, which no value has.
     Reserved,
 }
-
-// The widths of types 0 to 9.
-pub const WIDTHS: [u64; 10] = [0, 1, 2, 3, 4, 6, 8, 8, 0, 0];
 
 // How many bytes a value of the type takes. Texts and blobs of one length are neighbours, the blob first.
 pub fn width_of(kind: u64) -> Width

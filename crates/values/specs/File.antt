@@ -7,7 +7,8 @@ use lib.IntN.{pos}
 use lib.Ieee.{binary64, ofBits}
 use Rattle.laws.specs.Pick.{pick}
 use Rattle.fields.specs.Fields.{unsigned, signed}
-use Rattle.serial.specs.Serial.{widths, isBlob, lengthOf}
+use Rattle.tables.specs.Tables.{widths}
+use Rattle.serial.specs.Serial.{isBlob, lengthOf}
 use Rattle.values.specs.declared.file.Value.{Value}
 use Rattle.values.specs.declared.file.Value.the-variants.{Null, Integer, Real, Text, Blob}
 

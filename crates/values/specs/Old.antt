@@ -9,7 +9,8 @@ use lib.IntN.{pos}
 use lib.Ieee.{binary64, ofBits}
 use Rattle.laws.specs.Pick.{pick}
 use Rattle.fields.specs.Fields.{unsigned, signed}
-use Rattle.serial.specs.Serial.{widths, isBlob, lengthOf}
+use Rattle.tables.specs.Tables.{widths}
+use Rattle.serial.specs.Serial.{isBlob, lengthOf}
 use Rattle.values.specs.declared.old.Value.{Value}
 use Rattle.values.specs.declared.old.Value.the-variants.{Null, I8, I16, I32, I64, F64, Text, Blob}
 

@@ -1,0 +1,4 @@
+pub mod Laws
+pub mod Stages
+pub mod Count
+pub mod Kept

@@ -1,0 +1,115 @@
+-- The header size is what the varint reader says, and the rest what `fit_of` says of the bytes behind it.
+use Prim.Native.Nat.{ℕ, _-_, _≤_}
+use mathlib.Core.Path.{_≡_, sym, ap, _∙_}
+use native.Mathlib.Omega.{arith}
+use lib.ListN.{length, drop}
+use denote.Ref.{now}
+use Rattle.laws.proofs.Parts.{tail}
+use Rattle.reading.specs.Reading.{limit}
+use Rattle.varint.specs.declared.Varint.the-variants as vi
+use Rattle.varint.specs.Varint.{varintOf}
+use Rattle.varint.proofs.Laws.{length-bounds}
+use Rattle.record.specs.declared.Fit.{Fit}
+use Rattle.record.specs.declared.RecordAnswer.the-variants as ra
+use Rattle.record.specs.Record.{counted, fitted}
+use Rattle.record.proofs.Stages.{record-headless, record-unfit, record-whole}
+use Rattle.record.proofs.Count.{fits-count}
+use borrow.Author.Needs.{needs}
+use Rattle.record.proofs.record_of.Statement.{statement}
+use Rattle.record.proofs.record_of.Tie as tie
+
+limit-of-requires : tie.Need-limit-of-requires
+limit-of-requires c κs = search needs
+
+read-requires : tie.Need-read-requires
+read-requires c κs = search needs
+
+enum-known-value : tie.Need-enum-known-value
+enum-known-value c = search needs
+
+enum-told : tie.Need-enum-told
+enum-told c = search needs
+
+headless-fault-requires : tie.Need-headless-fault-requires
+headless-fault-requires c κs = search needs
+
+returns : tie.Need-returns
+returns c =
+    let a = c .before .before .before .before .before .before .args in
+    let e = sym (ap (λ (l : ℕ). varintOf l (now (a .q))) (c .before .before .before .before .limit-of .ensures)) ∙ sym (c .before .before .before .read .ensures) ∙ c .before .enum-told .given .1 in
+    ap ra.Faulty (c .headless-fault .ensures) ∙ sym (record-headless (a .reading) (now (a .q)) e)
+
+counted-of-requires : tie.Need-counted-of-requires
+counted-of-requires c κs = search needs
+
+-- where the header size was read
+abbrev Read : Type 0
+Read = tie.After-known-told
+
+found : (c : Read)
+    → varintOf (limit (c .before .before .before .before .before .before .args .reading)) (now (c .before .before .before .before .before .before .args .q)) ≡ vi.Value (c .before .value .given .0 .0) (c .before .value .given .0 .1 .0)
+found c =
+    sym (ap (λ (l : ℕ). varintOf l (now (c .before .before .before .before .before .before .args .q))) (c .before .before .before .before .limit-of .ensures))
+    ∙ sym (c .before .before .before .read .ensures)
+    ∙ c .before .value .given .1
+
+room : (c : Read) → c .before .value .given .0 .1 .0 ≤ length (now (c .before .before .before .before .before .before .args .q))
+room c = length-bounds (now (c .before .before .before .before .before .before .args .q)) _ (found c) .2
+
+sub-fit-of : tie.Need-sub-fit-of
+sub-fit-of c = omega (arith, room (c .before))
+
+part-fit-of-start : tie.Need-part-fit-of-start
+part-fit-of-start c = omega (arith, room (c .before))
+
+part-fit-of-end : tie.Need-part-fit-of-end
+part-fit-of-end c = search needs
+
+fit-of-requires : tie.Need-fit-of-requires
+fit-of-requires c κs = search needs
+
+enum-known-fitting : tie.Need-enum-known-fitting
+enum-known-fitting c = search needs
+
+enum-known-fitting-2 : tie.Need-enum-known-fitting-2
+enum-known-fitting-2 c = search needs
+
+-- what the call of `fit_of` said
+fits-is : (c : tie.After-fit-of)
+    → c .fit-of .result
+    ≡ fitted (c .before .before .before .before .before .before .before .before .before .args .reading) (counted (c .before .before .before .before .before .before .before .before .before .args .reading) (c .before .before .before .before .value .given .0 .1 .0)) (c .before .before .before .before .value .given .0 .0)
+    (drop (c .before .before .before .before .value .given .0 .1 .0) (now (c .before .before .before .before .before .before .before .before .before .args .q)))
+fits-is c = c .fit-of .ensures ∙ rw (tail (now (c .before .before .before .before .before .before .before .before .before .args .q)) _, c .before .before .counted-of .ensures)
+
+returns-2 : tie.Need-returns-2
+returns-2 c =
+    let k = c .before .before .before .before .before .before in
+    let a = k .before .before .before .before .before .before .args in
+    let f = sym (fits-is (c .before .before .before)) ∙ c .before .fitting .given .1 in
+    rw (fits-count (a .reading) _ _ _ f) (sym (record-whole (a .reading) (now (a .q)) (found k) f))
+
+returns-3 : tie.Need-returns-3
+returns-3 c =
+    let k = c .before .before .before .before .before .before in
+    let a = k .before .before .before .before .before .before .args in
+    sym (record-unfit (a .reading) (now (a .q)) (found k) (sym (fits-is (c .before .before .before)) ∙ c .before .fitting2 .given .1))
+
+pub record-of-spec : {M : Type 1} → statement M
+record-of-spec =
+    tie.close
+    (tie.spec
+    limit-of-requires
+    read-requires
+    enum-known-value
+    enum-told
+    headless-fault-requires
+    returns
+    counted-of-requires
+    sub-fit-of
+    part-fit-of-start
+    part-fit-of-end
+    fit-of-requires
+    enum-known-fitting
+    enum-known-fitting-2
+    returns-2
+    returns-3)

@@ -1,0 +1,108 @@
+//! Prints everything the original shows of a database. See oracle/README.md.
+
+mod answers;
+mod ask;
+mod cases;
+mod cells;
+mod fault;
+mod rows;
+mod stream;
+mod text;
+mod values;
+
+use std::env;
+use std::fs::File;
+use std::io::{self, BufReader, BufWriter, Read, Write};
+use std::process::exit;
+
+use fault::Fault;
+
+const USAGE: &str = "answers [FILE] | cases FILE.. | encode FILE.. | names FILE.. | rows [FILE]";
+
+fn main() {
+    ask::record_panics();
+    let args: Vec<String> = env::args().skip(1).collect();
+    let mut out = BufWriter::with_capacity(1 << 16, io::stdout().lock());
+    let done = run(&args, &mut out);
+    // Also after a fault: what was answered before it is good.
+    let written = out.flush().map_err(Fault::from);
+    if let Err(fault) = done.and(written) {
+        fault.report();
+        exit(2);
+    }
+}
+
+fn run(args: &[String], out: &mut impl Write) -> Result<(), Fault> {
+    let (command, files) = args.split_first().ok_or_else(usage)?;
+    match command.as_str() {
+        "answers" => answer_stream(&mut open(files)?, out),
+        "cases" => answer_cases(files, out),
+        "encode" => encode(files, out),
+        "names" => names(files, out),
+        "rows" => print_rows(&mut open(files)?, out),
+        _ => Err(usage()),
+    }
+}
+
+fn usage() -> Fault {
+    Fault::new(format!("the commands are {USAGE}"))
+}
+
+/// The one file named, or standard input.
+fn open(files: &[String]) -> Result<Box<dyn Read>, Fault> {
+    match files {
+        [] => Ok(Box::new(io::stdin().lock())),
+        [name] => {
+            let file = File::open(name).map_err(|e| Fault::new(format!("{name}: {e}")))?;
+            Ok(Box::new(BufReader::with_capacity(1 << 16, file)))
+        }
+        _ => Err(usage()),
+    }
+}
+
+fn answer_stream(input: &mut dyn Read, out: &mut impl Write) -> Result<(), Fault> {
+    let mut index = 0;
+    while let Some(bytes) = stream::next(input)? {
+        answers::print(out, index, &bytes)?;
+        index += 1;
+    }
+    Ok(())
+}
+
+fn answer_cases(files: &[String], out: &mut impl Write) -> Result<(), Fault> {
+    for (index, case) in all_cases(files)?.iter().enumerate() {
+        answers::print(out, index, &case.bytes)?;
+    }
+    Ok(())
+}
+
+fn encode(files: &[String], out: &mut impl Write) -> Result<(), Fault> {
+    for case in all_cases(files)? {
+        stream::put(out, &case.bytes)?;
+    }
+    Ok(())
+}
+
+fn names(files: &[String], out: &mut impl Write) -> Result<(), Fault> {
+    for (index, case) in all_cases(files)?.iter().enumerate() {
+        writeln!(out, "{index} {}", case.name)?;
+    }
+    Ok(())
+}
+
+fn all_cases(files: &[String]) -> Result<Vec<cases::Case>, Fault> {
+    if files.is_empty() {
+        return Err(usage());
+    }
+    let mut all = Vec::new();
+    for file in files {
+        all.extend(cases::read(file)?);
+    }
+    Ok(all)
+}
+
+fn print_rows(input: &mut dyn Read, out: &mut impl Write) -> Result<(), Fault> {
+    let mut bytes = Vec::new();
+    input.read_to_end(&mut bytes)?;
+    Ok(rows::print(out, &bytes)?)
+}
