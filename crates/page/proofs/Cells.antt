@@ -1,0 +1,47 @@
+-- One cell more of a page, and where a cell begins.
+use Prim.Native.Nat.{ℕ, zero, suc, _+_, _-_, _≤_, _<_}
+use mathlib.Core.Path.{_≡_, refl, _∙_}
+use mathlib.Core.List.{List}
+use mathlib.Core.Bool.{Bool, true, false, _||_}
+use native.Mathlib.Omega.{arith}
+use lib.Dec.{ltb, leb}
+use borrow.Author.Tests.{ltb-false, leb-false}
+use Rattle.reading.specs.declared.Reading.{Reading}
+use Rattle.reading.specs.declared.Reading.the-variants.{Old as old, File as file}
+use Rattle.answers.specs.declared.Fault.{Fault}
+use Rattle.page.specs.declared.Open.{Open}
+use Rattle.page.specs.declared.Entry.{Entry}
+use Rattle.page.specs.declared.EntryAnswer.the-variants as ea
+use Rattle.page.specs.declared.Sound.the-variants as so
+use Rattle.page.specs.Open.{pointersEnd}
+use Rattle.page.specs.Entry.{outside, entryIn}
+use Rattle.page.specs.Page.{soundFrom}
+
+-- of n cells, i are sound
+module _ (o : Open) (page : List ℕ) (n i : ℕ) where
+  pub sound-all : n ≤ i → soundFrom o page i (n - i) ≡ so.Sound
+  unfolding soundFrom
+  sound-all h = let e : n - i ≡ 0 = omega arith in rw e
+
+  module _ (h : i < n) where
+    one-more : n - i ≡ suc (n - (i + 1))
+    one-more = omega arith
+
+    pub sound-next : {e : Entry} → entryIn o i page ≡ ea.Shown e → soundFrom o page i (n - i) ≡ soundFrom o page (i + 1) (n - (i + 1))
+    unfolding soundFrom
+    sound-next e = rw one-more (simp (soundFrom, e))
+
+    pub sound-stops : {fault : Fault} → entryIn o i page ≡ ea.Faulty fault → soundFrom o page i (n - i) ≡ so.Unsound i fault
+    unfolding soundFrom
+    sound-stops e = rw one-more (simp (soundFrom, e))
+
+-- a pointer that is not outside is at most the end
+or-false : (a b : Bool) → a || b ≡ false → (a ≡ false) × (b ≡ false)
+or-false true b e = let z : _≡_ {A = ℕ} 0 1 = cc in absurd (omega arith)
+or-false false b e = (refl, e)
+
+pub inside : (r : Reading) (o : Open) (p : ℕ) → outside r o p ≡ false → p ≤ o .end
+inside old o p e = ltb-false (o .end) p (or-false (ltb (o .end) p) (ltb p (o .from)) e .0)
+inside file o p e =
+    let l = leb-false (o .end) p (or-false (ltb p (pointersEnd (o .from) (o .kind) (o .cells))) (leb (o .end) p) e .1) in
+    omega arith

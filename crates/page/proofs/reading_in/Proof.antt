@@ -1,0 +1,13 @@
+-- By the key's last bit.
+use borrow.Author.Tests.{eq-eqb, ne-eqb}
+use Rattle.page.proofs.reading_in.Statement.{statement}
+use Rattle.page.proofs.reading_in.Tie as tie
+
+returns : tie.Need-returns
+returns c = rw (eq-eqb _ 0 (c .if1 .taken))
+
+returns-2 : tie.Need-returns-2
+returns-2 c = rw (ne-eqb _ 0 (c .if1 .left))
+
+pub reading-in-spec : {M : Type 1} → statement M
+reading-in-spec = tie.close (tie.spec returns returns-2)

@@ -1,0 +1,4 @@
+pub mod Place
+pub mod Open
+pub mod Entry
+pub mod Page
