@@ -1,8 +1,9 @@
 // Big-endian numbers, unsigned and in two's complement: the file format's header fields, pointers and integer values.
 //
 // Every reader is handed the part of the bytes that begins at its number, takes as many bytes as its name says and
-// leaves the rest. It is total: where the part ends early, the bytes that are there spell the number. From the Rust:
-// be_i48.rs, and the numbers that it takes from nom, under nom's names.
+// leaves the rest. It is total: where the part ends early, the bytes that are there spell the number. So a field of one
+// to eight bytes is `be_u64` of a part that has just these bytes. From the Rust: be_i48.rs, and the numbers that it takes
+// from nom, under nom's names.
 ghost use mathlib.Core.Path.{_≡_};
 ghost use Prim.Native.Nat.{_*_, _^_, _≤_, _<_};
 ghost use lib.Signed.{mag};

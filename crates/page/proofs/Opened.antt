@@ -1,5 +1,5 @@
 -- What is so of a page that is opened: it lies in the bytes, its pointers end by its end, and its end is in it.
-use Prim.Native.Nat.{ℕ, _+_, _≤_}
+use Prim.Native.Nat.{ℕ, _+_, _-_, _≤_}
 use mathlib.Core.Path.{_≡_, refl, _∙_}
 use mathlib.Core.List.{List}
 use mathlib.Core.Bool.{Bool, true, false}
@@ -68,3 +68,7 @@ module _ (r : Reading) (db : List ℕ) (o : Open) where
 pub open-fits : (key : ℕ) (db : List ℕ) (o : Open) → openOf key db ≡ oa.Shown o → Opened o db
 unfolding openOf
 open-fits key db o e = by-shape (readingIn key) db o (numberIn key) (shapeOf (readingIn key) db) refl e
+
+-- the code hands on the part from a page's place to behind it
+pub part-is : (o : Open) → o .at + o .size - o .at ≡ o .size
+part-is o = omega arith

@@ -58,11 +58,16 @@ abbrev pub entryBy : Kind → ℕ → CellAnswer → EntryAnswer
 entryBy k p (ca.Faulty fault) = Faulty fault
 entryBy k p (ca.Shown c) = Shown (entryFrom k p c)
 
-abbrev pub pointedBy : Open → ℕ → List ℕ → EntryAnswer
-pointedBy o p page =
-    pick (outside (o .reading) o p) (Faulty fa.PointerOutside)
-    (entryBy (o .kind) p (answerOf (cellOf (o .reading) (o .kind) (o .end) (partAt o p page))))
+-- the cell that a pointer names
+abbrev pub cellBy : Open → ℕ → List ℕ → CellAnswer
+cellBy o p page =
+    pick (outside (o .reading) o p) (ca.Faulty fa.PointerOutside)
+    (answerOf (cellOf (o .reading) (o .kind) (o .end) (partAt o p page)))
 
--- the entry of cell i of the page
+-- cell i of the page
+unfoldable pub cellIn : Open → ℕ → List ℕ → CellAnswer
+cellIn o i page = cellBy o (pointerAt o i page) page
+
+-- and its entry
 unfoldable pub entryIn : Open → ℕ → List ℕ → EntryAnswer
-entryIn o i page = pointedBy o (pointerAt o i page) page
+entryIn o i page = entryBy (o .kind) (pointerAt o i page) (cellIn o i page)

@@ -2,3 +2,4 @@ pub mod Place
 pub mod Open
 pub mod Entry
 pub mod Page
+pub mod Located

@@ -7,7 +7,8 @@ ghost use Prim.Native.Nat.{_+_, _*_, _≤_, _<_};
 ghost use lib.ListN.{length};
 ghost use Rattle.page.specs.Place.{oldKey, fileKey, readingIn, headerAt, placeFrom, placeOf, pageAt, Lies};
 ghost use Rattle.page.specs.Open.{kindOf, kindAt, headSize, cellsAt, pointersEnd, opened, placedBy, openOf, Fitting};
-ghost use Rattle.page.specs.Entry.{outside, entryFrom, pointedBy, entryIn};
+ghost use Rattle.page.specs.Entry.{pointerAt, outside, entryFrom, cellBy, entryIn};
+ghost use Rattle.page.specs.Located.{locatedIn, locatedOf};
 ghost use Rattle.page.specs.Page.{contentStart, rightmostOf, headOf, soundFrom, pageIn, pageOf, none, entryOr, entryAt, written};
 use answers::Fault;
 use answers::Reason;
@@ -63,6 +64,16 @@ pub struct Entry {
 pub enum EntryAnswer {
     Shown(Entry),
     Faulty(Fault),
+}
+
+// A cell of a page, with its page and its pointer.
+pub enum Located {
+    Shown {
+        opened: Open,
+        pointer: usize,
+        cell: Cell,
+    },
+    Refused(Refusal),
 }
 
 pub enum Sound {
@@ -285,21 +296,27 @@ fn is_outside(opened: Open, pointer: usize) -> bool
 }
 
 // The cell that a pointer names.
-fn pointed_of(page: &[u8], opened: Open, pointer: usize) -> EntryAnswer
-    requires { ⌜ Fitting opened (now page) × (pointer < 65536) ⌝ }
-    ensures { λ r. ⌜ r ≡ pointedBy opened pointer (now (page .entry)) ⌝ }
+fn cell_by(page: &[u8], opened: Open, pointer: usize) -> CellAnswer
+    requires { ⌜ Fitting opened (now page) ⌝ }
+    ensures { λ r. ⌜ r ≡ cellBy opened pointer (now (page .entry)) ⌝ }
 {
     if is_outside(opened, pointer) {
-        return EntryAnswer::Faulty(Fault::PointerOutside);
+        return CellAnswer::Faulty(Fault::PointerOutside);
     }
     let reading = opened.reading;
     let kind = opened.kind;
     let end = opened.end as usize;
-    let shown = cell::cell_of(&page[pointer..end], reading, kind, opened.end);
-    match shown {
-        CellAnswer::Faulty(fault) => EntryAnswer::Faulty(fault),
-        CellAnswer::Shown(cell) => EntryAnswer::Shown(entry_of(kind, pointer, cell)),
-    }
+    cell::cell_of(&page[pointer..end], reading, kind, opened.end)
+}
+
+// Pointer `i` of an opened page.
+fn pointer_at(page: &[u8], opened: Open, i: usize) -> usize
+    requires { ⌜ Fitting opened (now page) × (i < opened .cells) ⌝ }
+    ensures { λ r. ⌜ (r ≡ pointerAt opened i (now (page .entry))) × (r < 65536) ⌝ }
+{
+    let kind = opened.kind;
+    let at = opened.from + head_size(kind) + 2 * i;
+    be_u16(&page[at..]) as usize
 }
 
 fn entry_of(kind: Kind, pointer: usize, cell: Cell) -> Entry
@@ -320,15 +337,20 @@ fn entry_of(kind: Kind, pointer: usize, cell: Cell) -> Entry
     }
 }
 
-// Cell `i` of an opened page.
+// Its entry.
 fn entry_in(page: &[u8], opened: Open, i: usize) -> EntryAnswer
     requires { ⌜ Fitting opened (now page) × (i < opened .cells) ⌝ }
     ensures { λ r. ⌜ r ≡ entryIn opened i (now (page .entry)) ⌝ }
 {
-    let kind = opened.kind;
-    let at = opened.from + head_size(kind) + 2 * i;
-    let pointer = be_u16(&page[at..]) as usize;
-    pointed_of(page, opened, pointer)
+    let pointer = pointer_at(page, opened, i);
+    let shown = cell_by(page, opened, pointer);
+    match shown {
+        CellAnswer::Faulty(fault) => EntryAnswer::Faulty(fault),
+        CellAnswer::Shown(cell) => {
+            let kind = opened.kind;
+            EntryAnswer::Shown(entry_of(kind, pointer, cell))
+        }
+    }
 }
 
 // Whether every cell of an opened page is accepted.
@@ -468,5 +490,40 @@ fn entry_or_none(page: &[u8], opened: Open, i: usize) -> Entry
     match entry {
         EntryAnswer::Shown(shown) => shown,
         EntryAnswer::Faulty(_) => no_entry(),
+    }
+}
+
+// Cell `i` of an opened page, with its pointer.
+fn located_in(page: &[u8], opened: Open, i: usize) -> Located
+    requires { ⌜ Fitting opened (now page) ⌝ }
+    ensures { λ r. ⌜ r ≡ locatedIn i opened (now (page .entry)) ⌝ }
+{
+    if opened.cells <= i {
+        return Located::Refused(Refusal::Plain(Reason::NoSuchCell));
+    }
+    let pointer = pointer_at(page, opened, i);
+    let shown = cell_by(page, opened, pointer);
+    match shown {
+        CellAnswer::Faulty(fault) => Located::Refused(Refusal::InCell { cell: i, fault }),
+        CellAnswer::Shown(cell) => Located::Shown {
+            opened,
+            pointer,
+            cell,
+        },
+    }
+}
+
+// Cell `i` of the page that the key names, and no other cell.
+pub fn cell_at(db: &[u8], key: usize, i: usize) -> Located
+    ensures { λ r. ⌜ r ≡ locatedOf key i (now (db .entry)) ⌝ }
+{
+    let answer = open_page(db, key);
+    match answer {
+        OpenAnswer::Refused(reason) => Located::Refused(Refusal::Plain(reason)),
+        OpenAnswer::Shown(opened) => {
+            let at = opened.at;
+            let behind = at + opened.size;
+            located_in(&db[at..behind], opened, i)
+        }
     }
 }

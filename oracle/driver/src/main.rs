@@ -5,19 +5,21 @@ mod ask;
 mod cases;
 mod cells;
 mod fault;
+mod generate;
 mod rows;
 mod stream;
 mod text;
 mod values;
 
 use std::env;
-use std::fs::File;
+use std::fs::{self, File};
 use std::io::{self, BufReader, BufWriter, Read, Write};
 use std::process::exit;
 
 use fault::Fault;
 
-const USAGE: &str = "answers [FILE] | cases FILE.. | encode FILE.. | names FILE.. | rows [FILE]";
+const USAGE: &str = "answers [FILE] | cases FILE.. | encode FILE.. | names FILE.. | rows [FILE] \
+    | stream FILE.. | nth INDEX [FILE] | generate ..";
 
 fn main() {
     ask::record_panics();
@@ -40,6 +42,9 @@ fn run(args: &[String], out: &mut impl Write) -> Result<(), Fault> {
         "encode" => encode(files, out),
         "names" => names(files, out),
         "rows" => print_rows(&mut open(files)?, out),
+        "stream" => put_files(files, out),
+        "nth" => put_nth(files, out),
+        "generate" => generate::run(files, out),
         _ => Err(usage()),
     }
 }
@@ -81,6 +86,27 @@ fn encode(files: &[String], out: &mut impl Write) -> Result<(), Fault> {
         stream::put(out, &case.bytes)?;
     }
     Ok(())
+}
+
+fn put_files(files: &[String], out: &mut impl Write) -> Result<(), Fault> {
+    for name in files {
+        let bytes = fs::read(name).map_err(|e| Fault::new(format!("{name}: {e}")))?;
+        stream::put(out, &bytes)?;
+    }
+    Ok(())
+}
+
+/// One database of a stream, its bytes as they are.
+fn put_nth(words: &[String], out: &mut impl Write) -> Result<(), Fault> {
+    let (index, files) = words.split_first().ok_or_else(usage)?;
+    let index: usize = index.parse().map_err(|_| usage())?;
+    let mut input = open(files)?;
+    for _ in 0..index {
+        stream::next(&mut input)?;
+    }
+    let bytes = stream::next(&mut input)?;
+    let bytes = bytes.ok_or_else(|| Fault::new(format!("no database {index}")))?;
+    Ok(out.write_all(&bytes)?)
 }
 
 fn names(files: &[String], out: &mut impl Write) -> Result<(), Fault> {

@@ -1,12 +1,11 @@
 -- The page is the part of the bytes that was opened.
-use Prim.Native.Nat.{_+_, _-_}
 use mathlib.Core.Path.{_≡_, sym, ap, _∙_}
 use native.Mathlib.Omega.{arith}
 use denote.Ref.{now}
 use Rattle.page.specs.declared.OpenAnswer.the-variants as oa
 use Rattle.page.specs.Open.{openOf}
 use Rattle.page.specs.Page.{pageOf}
-use Rattle.page.proofs.Opened.{Opened, open-fits}
+use Rattle.page.proofs.Opened.{Opened, open-fits, part-is}
 use borrow.Author.Needs.{needs}
 use Rattle.page.proofs.check_page.Statement.{statement}
 use Rattle.page.proofs.check_page.Tie as tie
@@ -27,10 +26,6 @@ shown c = sym (c .before .before .before .open-page .ensures) ∙ c .before .ans
 fits : (c : tie.After-known-told2) → Opened (c .before .answer2 .given .0 .0) (now (c .before .before .before .before .before .args .db))
 fits c = open-fits (c .before .before .before .before .before .args .key) (now (c .before .before .before .before .before .args .db)) (c .before .answer2 .given .0 .0) (shown c)
 
-same : (c : tie.After-known-told2)
-    → let o = c .before .answer2 .given .0 .0 in o .at + o .size - o .at ≡ o .size
-same c = let o = c .before .answer2 .given .0 .0 in omega arith
-
 add-behind : tie.Need-add-behind
 add-behind c = omega (arith, fits (c .before) .there)
 
@@ -44,7 +39,7 @@ part-checked-page-end : tie.Need-part-checked-page-end
 part-checked-page-end c = omega (arith, fits (c .before) .there)
 
 checked-page-requires : tie.Need-checked-page-requires
-checked-page-requires c κs = let k = c .before .before in rw (same k) (fits k .fits)
+checked-page-requires c κs = let k = c .before .before in rw (part-is _) (fits k .fits)
 
 returns : tie.Need-returns
 unfolding pageOf
@@ -52,7 +47,7 @@ returns c = rw (sym (c .before .before .before .open-page .ensures) ∙ c .befor
 
 returns-2 : tie.Need-returns-2
 unfolding pageOf
-returns-2 c = let k = c .before .before .before in rw (shown k) (rw (same k) at (c .checked-page .ensures))
+returns-2 c = let k = c .before .before .before in rw (shown k) (rw (part-is _) at (c .checked-page .ensures))
 
 pub check-page-spec : {M : Type 1} → statement M
 check-page-spec =

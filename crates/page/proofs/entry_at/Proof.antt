@@ -1,12 +1,11 @@
 -- The page is the part of the bytes that was opened.
-use Prim.Native.Nat.{_+_, _-_}
 use mathlib.Core.Path.{_≡_, sym, ap, _∙_}
 use native.Mathlib.Omega.{arith}
 use denote.Ref.{now}
 use Rattle.page.specs.declared.OpenAnswer.the-variants as oa
 use Rattle.page.specs.Open.{openOf}
 use Rattle.page.specs.Page.{entryAt}
-use Rattle.page.proofs.Opened.{Opened, open-fits}
+use Rattle.page.proofs.Opened.{Opened, open-fits, part-is}
 use borrow.Author.Needs.{needs}
 use Rattle.page.proofs.entry_at.Statement.{statement}
 use Rattle.page.proofs.entry_at.Tie as tie
@@ -30,10 +29,6 @@ shown c = sym (c .before .before .before .open-page .ensures) ∙ c .before .ans
 fits : (c : tie.After-known-told) → Opened (c .before .answer .given .0 .0) (now (c .before .before .before .before .before .args .db))
 fits c = open-fits (c .before .before .before .before .before .args .key) (now (c .before .before .before .before .before .args .db)) (c .before .answer .given .0 .0) (shown c)
 
-same : (c : tie.After-known-told)
-    → let o = c .before .answer .given .0 .0 in o .at + o .size - o .at ≡ o .size
-same c = let o = c .before .answer .given .0 .0 in omega arith
-
 add-behind : tie.Need-add-behind
 add-behind c = omega (arith, fits (c .before) .there)
 
@@ -47,7 +42,7 @@ part-entry-or-none-end : tie.Need-part-entry-or-none-end
 part-entry-or-none-end c = omega (arith, fits (c .before) .there)
 
 entry-or-none-requires : tie.Need-entry-or-none-requires
-entry-or-none-requires c κs = let k = c .before .before in rw (same k) (fits k .fits)
+entry-or-none-requires c κs = let k = c .before .before in rw (part-is _) (fits k .fits)
 
 returns : tie.Need-returns
 unfolding entryAt
@@ -55,7 +50,7 @@ returns c = rw (sym (c .before .before .before .open-page .ensures) ∙ c .befor
 
 returns-2 : tie.Need-returns-2
 unfolding entryAt
-returns-2 c = let k = c .before .before .before in rw (shown k) (rw (same k) at (c .entry-or-none .ensures))
+returns-2 c = let k = c .before .before .before in rw (shown k) (rw (part-is _) at (c .entry-or-none .ensures))
 
 pub entry-at-spec : {M : Type 1} → statement M
 entry-at-spec =

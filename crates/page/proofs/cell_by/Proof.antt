@@ -1,14 +1,13 @@
 -- What the cell reader says of the part that begins at the pointer.
 use Prim.Native.Nat.{_≤_}
-use mathlib.Core.Path.{_≡_, sym, ap, _∙_}
+use mathlib.Core.Path.{_≡_, sym, _∙_}
 use mathlib.Core.Bool.{false}
 use native.Mathlib.Omega.{arith}
-use Rattle.page.specs.declared.EntryAnswer.the-variants.{Shown}
 use Rattle.page.specs.Entry.{outside}
 use Rattle.page.proofs.Cells.{inside}
 use borrow.Author.Needs.{needs}
-use Rattle.page.proofs.pointed_of.Statement.{statement}
-use Rattle.page.proofs.pointed_of.Tie as tie
+use Rattle.page.proofs.cell_by.Statement.{statement}
+use Rattle.page.proofs.cell_by.Tie as tie
 
 is-outside-requires : tie.Need-is-outside-requires
 is-outside-requires c κs = search needs
@@ -39,23 +38,11 @@ part-cell-of-end c = search needs
 cell-of-requires : tie.Need-cell-of-requires
 cell-of-requires c κs = search needs
 
-enum-known-shown : tie.Need-enum-known-shown
-enum-known-shown c = search needs
-
-enum-known-shown-2 : tie.Need-enum-known-shown-2
-enum-known-shown-2 c = search needs
-
-entry-of-requires : tie.Need-entry-of-requires
-entry-of-requires c κs = search needs
-
 returns-2 : tie.Need-returns-2
-returns-2 c = rw (within (c .before .before .before .before .before), sym (c .before .before .before .cell-of .ensures) ∙ c .before .shown .given .1)
+returns-2 c = rw (within (c .before .before)) (c .cell-of .ensures)
 
-returns-3 : tie.Need-returns-3
-returns-3 c = rw (within (c .before .before .before .before .before .before), sym (c .before .before .before .before .cell-of .ensures) ∙ c .before .before .shown2 .given .1) (ap Shown (c .entry-of .ensures))
-
-pub pointed-of-spec : {M : Type 1} → statement M
-pointed-of-spec =
+pub cell-by-spec : {M : Type 1} → statement M
+cell-by-spec =
     tie.close
     (tie.spec
     is-outside-requires
@@ -65,8 +52,4 @@ pointed-of-spec =
     part-cell-of-start
     part-cell-of-end
     cell-of-requires
-    enum-known-shown
-    enum-known-shown-2
-    entry-of-requires
-    returns-2
-    returns-3)
+    returns-2)
