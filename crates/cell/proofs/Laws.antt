@@ -15,8 +15,7 @@ use Rattle.varint.proofs.Laws.{length-bounds}
 use Rattle.reading.specs.declared.Reading.{Reading}
 use Rattle.reading.specs.declared.Reading.the-variants.{Old as old, File as file}
 use Rattle.answers.specs.declared.Fault.the-variants as fa
-use Rattle.record.specs.Types.{Num, num, Types, count}
-use Rattle.cell.specs.declared.Payload.{Payload}
+use Rattle.record.specs.Types.{Num, Types, count}
 use Rattle.cell.specs.declared.Payload.the-variants as pa
 use Rattle.cell.specs.declared.Cell as dc
 use Rattle.cell.specs.Cell.{payloadIn, numberIn, closed, closedBy, closedAnswer, closingBy, numberOf, answerOf}

@@ -1,6 +1,6 @@
 -- What the sum of bytes and powers obeys: one byte more, the end, and the bound.
 use Prim.Native.Nat.{ℕ, zero, suc, _+_, _-_, _*_, _^_, _≤_, _<_}
-use mathlib.Core.Path.{_≡_, refl, sym, ap, _∙_}
+use mathlib.Core.Path.{_≡_}
 use mathlib.Core.List.{List, [], _∷_}
 use native.Mathlib.Nat.{pow-succ', add-mul, mul-assoc, add-assoc, mul-one, add-zero, zero-mul, zero-add, min-le-left}
 use native.Mathlib.Numerals.{add-one}

@@ -2,8 +2,7 @@
 //
 // From the file format, 1.3 "The Database Header", and the Rust's `db_header`, whose names the fields keep.
 ghost use mathlib.Core.Path.{_≡_};
-ghost use Prim.Native.Nat.{_≤_, _<_, _^_};
-ghost use mathlib.Core.List.{_++_};
+ghost use Prim.Native.Nat.{_≤_, _<_};
 ghost use lib.ListN.{length, take};
 ghost use Rattle.answers.specs.Checks.{first};
 ghost use Rattle.header.specs.Header.{fieldOf, pageSize, usable, end, alike, opening, fileChecks, checkedOf, reservedIn, fieldsIn, headerOf, shapeOf};

@@ -1,6 +1,6 @@
 -- Where pages lie, and what is so of one that is opened.
 use Prim.Native.Nat.{ℕ, suc, zero-le, _+_, _-_, _*_, _/_, _≤_, _<_}
-use mathlib.Core.Path.{_≡_, refl, sym, ap, _∙_}
+use mathlib.Core.Path.{_≡_, refl}
 use mathlib.Core.List.{List}
 use mathlib.Core.Bool.{Bool, true, false}
 use native.Mathlib.Nat.{le-div-iff-mul-le, div-lt-iff-lt-mul, add-mul, mul-zero}
@@ -18,7 +18,6 @@ use Rattle.header.specs.Header.{shapeOf}
 use Rattle.header.proofs.Laws.{shape-shown, usable-below}
 use Rattle.cell.specs.declared.Kind.{Kind}
 use Rattle.cell.specs.declared.Kind.the-variants.{InteriorIndex, InteriorTable, LeafIndex, LeafTable}
-use Rattle.page.specs.declared.Place.{Place}
 use Rattle.page.specs.declared.Place.the-variants.{At, Absent}
 use Rattle.page.specs.Place.{headerAt, placeFrom, placeOf, pageAt, Lies}
 use Rattle.page.specs.Open.{headSize}

@@ -1,6 +1,6 @@
 -- What is so of a page that is opened: it lies in the bytes, its pointers end by its end, and its end is in it.
 use Prim.Native.Nat.{ℕ, _+_, _-_, _≤_}
-use mathlib.Core.Path.{_≡_, refl, _∙_}
+use mathlib.Core.Path.{_≡_, refl}
 use mathlib.Core.List.{List}
 use mathlib.Core.Bool.{Bool, true, false}
 use native.Mathlib.Omega.{arith}
@@ -19,7 +19,6 @@ use Rattle.page.specs.declared.Place.the-variants.{At, Absent}
 use Rattle.page.specs.declared.KindAnswer.{KindAnswer}
 use Rattle.page.specs.declared.KindAnswer.the-variants.{Known, Unknown}
 use Rattle.page.specs.declared.Open.{Open}
-use Rattle.page.specs.declared.OpenAnswer.{OpenAnswer}
 use Rattle.page.specs.declared.OpenAnswer.the-variants as oa
 use Rattle.page.specs.Place.{readingIn, numberIn, placeOf, pageAt, Lies}
 use Rattle.page.specs.Open.{kindAt, cellsAt, pointersEnd, opened, openedBy, placedBy, shapedBy, openOf, Fitting}

@@ -5,15 +5,13 @@
 -- the cell content area (2, 0 meaning 65,536), fragmented bytes (1) and, on interior pages, the right-most pointer (4);
 -- the cell pointers, two bytes each, follow it.
 use Prim.Native.Nat.{ℕ, _+_, _*_, _≤_}
-use mathlib.Core.List.{List, [], _∷_}
-use mathlib.Core.Bool.{true, false}
+use mathlib.Core.List.{List}
 use lib.Dec.{ltb, eqb}
 use lib.ListN.{length, drop, getD}
 use Rattle.laws.specs.Pick.{pick}
 use Rattle.fields.specs.Fields.{unsigned}
 use Rattle.reading.specs.declared.Reading.{Reading}
 use Rattle.answers.specs.declared.Reason.the-variants as re
-use Rattle.header.specs.declared.Shape.{Shape}
 use Rattle.header.specs.declared.ShapeAnswer.{ShapeAnswer}
 use Rattle.header.specs.declared.ShapeAnswer.the-variants as sh
 use Rattle.header.specs.Header.{shapeOf}

@@ -2,7 +2,6 @@
 -- failing cell decides.
 use Prim.Native.Nat.{ℕ, zero, suc, _+_}
 use mathlib.Core.List.{List, [], _∷_, _++_}
-use mathlib.Core.Bool.{true, false}
 use lib.Dec.{ltb, eqb}
 use lib.ListN.{drop, getD}
 use lib.IntN.{pos}
@@ -10,7 +9,6 @@ use Rattle.laws.specs.Pick.{pick}
 use Rattle.fields.specs.Fields.{unsigned}
 use Rattle.answers.specs.declared.Reason.the-variants as re
 use Rattle.answers.specs.declared.Refusal.the-variants.{Plain, InCell}
-use Rattle.cell.specs.declared.Kind.{Kind}
 use Rattle.cell.specs.Kind.{kindByte, interior}
 use Rattle.page.specs.declared.Open.{Open}
 use Rattle.page.specs.declared.OpenAnswer.{OpenAnswer}

@@ -4,7 +4,6 @@
 -- format (1.2 "Pages") from 1. A page is there if it lies wholly in the bytes.
 use Prim.Native.Nat.{ℕ, _+_, _-_, _*_, _/_, _%_, _≤_}
 use mathlib.Core.List.{List}
-use mathlib.Core.Bool.{Bool}
 use lib.Dec.{ltb, eqb}
 use lib.ListN.{take, drop}
 use Rattle.laws.specs.Pick.{pick}

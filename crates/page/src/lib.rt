@@ -5,7 +5,7 @@
 ghost use mathlib.Core.Path.{_≡_};
 ghost use Prim.Native.Nat.{_+_, _*_, _≤_, _<_};
 ghost use lib.ListN.{length};
-ghost use Rattle.page.specs.Place.{oldKey, fileKey, readingIn, headerAt, placeFrom, placeOf, pageAt, Lies};
+ghost use Rattle.page.specs.Place.{oldKey, fileKey, readingIn, headerAt, placeFrom, oldPlace, filePlace, placeOf, Lies};
 ghost use Rattle.page.specs.Open.{kindOf, kindAt, headSize, cellsAt, pointersEnd, opened, placedBy, openOf, Fitting};
 ghost use Rattle.page.specs.Entry.{pointerAt, outside, entryFrom, cellBy, entryIn};
 ghost use Rattle.page.specs.Located.{locatedIn, locatedOf};
@@ -21,81 +21,12 @@ use fields::be_u32;
 use header::ShapeAnswer;
 use reading::Reading;
 
+// WHERE A PAGE LIES
+
 // Where a page lies in the bytes, and where its header stands in it.
 pub enum Place {
     At { at: usize, from: usize },
     Absent,
-}
-
-pub enum KindAnswer {
-    Known(Kind),
-    Unknown,
-}
-
-// A page whose head and pointers are there.
-pub struct Open {
-    pub reading: Reading,
-    // Where the page lies, and its size.
-    pub at: usize,
-    pub size: usize,
-    // Where its cells end.
-    pub end: u32,
-    // Where its header stands.
-    pub from: usize,
-    pub kind: Kind,
-    pub cells: usize,
-}
-
-pub enum OpenAnswer {
-    Shown(Open),
-    Refused(Reason),
-}
-
-pub struct Entry {
-    pub kind: u8,
-    pub pointer: u32,
-    pub child: u32,
-    pub payload_size: u64,
-    pub row: i64,
-    pub header_size: u64,
-    pub columns: usize,
-}
-
-pub enum EntryAnswer {
-    Shown(Entry),
-    Faulty(Fault),
-}
-
-// A cell of a page, with its page and its pointer.
-pub enum Located {
-    Shown {
-        opened: Open,
-        pointer: usize,
-        cell: Cell,
-    },
-    Refused(Refusal),
-}
-
-pub enum Sound {
-    Sound,
-    Unsound { cell: usize, fault: Fault },
-}
-
-pub struct Head {
-    pub kind: u8,
-    // 0: none.
-    pub first_freeblock: u32,
-    pub cells: usize,
-    // By its meaning: 65,536 where the field has 0.
-    pub content_start: u32,
-    pub fragmented: u32,
-    // 0 on leaves.
-    pub rightmost: u32,
-}
-
-pub enum PageAnswer {
-    Shown(Head),
-    Refused(Refusal),
 }
 
 // The page of that number as the Rust counts, from 0.
@@ -147,23 +78,59 @@ fn place_from(bytes: usize, size: u32, index: usize) -> Place
     Place::Absent
 }
 
-// Where the page of that number lies.
+// Where the Rust finds the page of that number.
+fn old_place(bytes: usize, size: u32, number: usize) -> Place
+    ensures { λ r. ⌜ r ≡ oldPlace bytes size number ⌝ }
+{
+    place_from(bytes, size, number)
+}
+
+// Where the file format has it: there is no page 0.
+fn file_place(bytes: usize, size: u32, number: usize) -> Place
+    ensures { λ r. ⌜ r ≡ filePlace bytes size number ⌝ }
+{
+    if number == 0 {
+        return Place::Absent;
+    }
+    place_from(bytes, size, number - 1)
+}
+
 fn place_of(reading: Reading, bytes: usize, size: u32, number: usize) -> Place
     ensures { λ r. ⌜ r ≡ placeOf reading bytes size number ⌝ }
 {
     match reading {
-        Reading::Old => {
-            return place_from(bytes, size, number);
-        }
-        Reading::File => {
-            if number == 0 {
-                return Place::Absent;
-            }
-            return place_from(bytes, size, number - 1);
-        }
+        Reading::Old => old_place(bytes, size, number),
+        Reading::File => file_place(bytes, size, number),
     }
 }
 
+// A PAGE THAT IS OPENED: its kind, its cells, where its pointers end
+
+pub enum KindAnswer {
+    Known(Kind),
+    Unknown,
+}
+
+// A page whose head and pointers are there.
+pub struct Open {
+    pub reading: Reading,
+    // Where the page lies, and its size.
+    pub at: usize,
+    pub size: usize,
+    // Where its cells end.
+    pub end: u32,
+    // Where its header stands.
+    pub from: usize,
+    pub kind: Kind,
+    pub cells: usize,
+}
+
+pub enum OpenAnswer {
+    Shown(Open),
+    Refused(Reason),
+}
+
+// The kind that a byte names.
 fn kind_of(byte: u8) -> KindAnswer
     ensures { λ r. ⌜ r ≡ kindOf byte ⌝ }
 {
@@ -176,6 +143,7 @@ fn kind_of(byte: u8) -> KindAnswer
     }
 }
 
+// The kind that stands at `from`, if a byte does.
 fn kind_at(page: &[u8], from: usize) -> KindAnswer
     ensures { λ r. ⌜ r ≡ kindAt from (now (page .entry)) ⌝ }
 {
@@ -185,6 +153,7 @@ fn kind_at(page: &[u8], from: usize) -> KindAnswer
     KindAnswer::Unknown
 }
 
+// How many bytes stand before the pointers.
 fn head_size(kind: Kind) -> usize
     ensures { λ r. ⌜ r ≡ headSize kind ⌝ }
 {
@@ -271,6 +240,33 @@ pub fn open_page(db: &[u8], key: usize) -> OpenAnswer
     }
 }
 
+// ITS CELLS: pointers, parts and entries
+
+pub struct Entry {
+    pub kind: u8,
+    pub pointer: u32,
+    pub child: u32,
+    pub payload_size: u64,
+    pub row: i64,
+    pub header_size: u64,
+    pub columns: usize,
+}
+
+pub enum EntryAnswer {
+    Shown(Entry),
+    Faulty(Fault),
+}
+
+// Pointer `i` of an opened page.
+fn pointer_at(page: &[u8], opened: Open, i: usize) -> usize
+    requires { ⌜ Fitting opened (now page) × (i < opened .cells) ⌝ }
+    ensures { λ r. ⌜ (r ≡ pointerAt opened i (now (page .entry))) × (r < 65536) ⌝ }
+{
+    let kind = opened.kind;
+    let at = opened.from + head_size(kind) + 2 * i;
+    be_u16(&page[at..]) as usize
+}
+
 // Whether a pointer names no place where a cell may begin.
 fn is_outside(opened: Open, pointer: usize) -> bool
     requires { ⌜ pointersEnd (opened .from) (opened .kind) (opened .cells) ≤ opened .end ⌝ }
@@ -309,16 +305,6 @@ fn cell_by(page: &[u8], opened: Open, pointer: usize) -> CellAnswer
     cell::cell_of(&page[pointer..end], reading, kind, opened.end)
 }
 
-// Pointer `i` of an opened page.
-fn pointer_at(page: &[u8], opened: Open, i: usize) -> usize
-    requires { ⌜ Fitting opened (now page) × (i < opened .cells) ⌝ }
-    ensures { λ r. ⌜ (r ≡ pointerAt opened i (now (page .entry))) × (r < 65536) ⌝ }
-{
-    let kind = opened.kind;
-    let at = opened.from + head_size(kind) + 2 * i;
-    be_u16(&page[at..]) as usize
-}
-
 fn entry_of(kind: Kind, pointer: usize, cell: Cell) -> Entry
     requires { ⌜ pointer < 65536 ⌝ }
     ensures { λ r. ⌜ r ≡ entryFrom kind pointer cell ⌝ }
@@ -337,7 +323,7 @@ fn entry_of(kind: Kind, pointer: usize, cell: Cell) -> Entry
     }
 }
 
-// Its entry.
+// Cell `i` of an opened page, as an entry.
 fn entry_in(page: &[u8], opened: Open, i: usize) -> EntryAnswer
     requires { ⌜ Fitting opened (now page) × (i < opened .cells) ⌝ }
     ensures { λ r. ⌜ r ≡ entryIn opened i (now (page .entry)) ⌝ }
@@ -353,33 +339,85 @@ fn entry_in(page: &[u8], opened: Open, i: usize) -> EntryAnswer
     }
 }
 
-// Whether every cell of an opened page is accepted.
-fn check_cells(page: &[u8], opened: Open) -> Sound
-    requires { ⌜ Fitting opened (now page) ⌝ }
-    ensures { λ r. ⌜ r ≡ soundFrom opened (now (page .entry)) 0 (opened .cells) ⌝ }
-{
-    let cells = opened.cells;
-    let mut i: usize = 0;
-    while i < cells {
-        let entry = entry_in(page, opened, i);
-        match entry {
-            EntryAnswer::Shown(_) => {
-                i += 1;
-            }
-            EntryAnswer::Faulty(fault) => {
-                return Sound::Unsound { cell: i, fault };
-            }
-        }
-    }
-    Sound::Sound
+// ONE CELL BY ITSELF
+
+// A cell of a page, with its page and its pointer.
+pub enum Located {
+    Shown {
+        opened: Open,
+        pointer: usize,
+        cell: Cell,
+    },
+    Refused(Refusal),
 }
 
+// Cell `i` of an opened page, with its pointer.
+fn located_in(page: &[u8], opened: Open, i: usize) -> Located
+    requires { ⌜ Fitting opened (now page) ⌝ }
+    ensures { λ r. ⌜ r ≡ locatedIn i opened (now (page .entry)) ⌝ }
+{
+    if opened.cells <= i {
+        return Located::Refused(Refusal::Plain(Reason::NoSuchCell));
+    }
+    let pointer = pointer_at(page, opened, i);
+    let shown = cell_by(page, opened, pointer);
+    match shown {
+        CellAnswer::Faulty(fault) => Located::Refused(Refusal::InCell { cell: i, fault }),
+        CellAnswer::Shown(cell) => Located::Shown {
+            opened,
+            pointer,
+            cell,
+        },
+    }
+}
+
+// Cell `i` of the page that the key names, and no other cell.
+pub fn cell_at(db: &[u8], key: usize, i: usize) -> Located
+    ensures { λ r. ⌜ r ≡ locatedOf key i (now (db .entry)) ⌝ }
+{
+    let answer = open_page(db, key);
+    match answer {
+        OpenAnswer::Refused(reason) => Located::Refused(Refusal::Plain(reason)),
+        OpenAnswer::Shown(opened) => {
+            let at = opened.at;
+            let behind = at + opened.size;
+            located_in(&db[at..behind], opened, i)
+        }
+    }
+}
+
+// THE PAGE CALL: the head of a page, the check of its cells, and each entry
+
+pub struct Head {
+    pub kind: u8,
+    // 0: none.
+    pub first_freeblock: u32,
+    pub cells: usize,
+    // By its meaning: 65,536 where the field has 0.
+    pub content_start: u32,
+    pub fragmented: u32,
+    // 0 on leaves.
+    pub rightmost: u32,
+}
+
+pub enum Sound {
+    Sound,
+    Unsound { cell: usize, fault: Fault },
+}
+
+pub enum PageAnswer {
+    Shown(Head),
+    Refused(Refusal),
+}
+
+// A field of 0 means 65,536.
 fn content_start(field: u16) -> u32
     ensures { λ r. ⌜ r ≡ contentStart field ⌝ }
 {
     if field == 0 { 65536 } else { field as u32 }
 }
 
+// The last child of an interior page.
 fn rightmost_in(page: &[u8], opened: Open) -> u32
     requires { ⌜ Fitting opened (now page) ⌝ }
     ensures { λ r. ⌜ r ≡ rightmostOf opened (now (page .entry)) ⌝ }
@@ -408,6 +446,27 @@ fn head_in(page: &[u8], opened: Open) -> Head
         fragmented: page[fragmented_at] as u32,
         rightmost: rightmost_in(page, opened),
     }
+}
+
+// Whether every cell of an opened page is accepted.
+fn check_cells(page: &[u8], opened: Open) -> Sound
+    requires { ⌜ Fitting opened (now page) ⌝ }
+    ensures { λ r. ⌜ r ≡ soundFrom opened (now (page .entry)) 0 (opened .cells) ⌝ }
+{
+    let cells = opened.cells;
+    let mut i: usize = 0;
+    while i < cells {
+        let entry = entry_in(page, opened, i);
+        match entry {
+            EntryAnswer::Shown(_) => {
+                i += 1;
+            }
+            EntryAnswer::Faulty(fault) => {
+                return Sound::Unsound { cell: i, fault };
+            }
+        }
+    }
+    Sound::Sound
 }
 
 // An opened page with all its cells, where a table of `room` entries is lent.
@@ -450,6 +509,7 @@ pub fn written_of(answer: PageAnswer) -> usize
     }
 }
 
+// What is answered for a cell that is not there.
 fn no_entry() -> Entry
     ensures { λ r. ⌜ r ≡ none ⌝ }
 {
@@ -461,21 +521,6 @@ fn no_entry() -> Entry
         row: 0,
         header_size: 0,
         columns: 0,
-    }
-}
-
-// The entry of cell `i` of the page that the key names; zeros where there is no such cell.
-pub fn entry_at(db: &[u8], key: usize, i: usize) -> Entry
-    ensures { λ r. ⌜ r ≡ entryAt key (now (db .entry)) i ⌝ }
-{
-    let answer = open_page(db, key);
-    match answer {
-        OpenAnswer::Refused(_) => no_entry(),
-        OpenAnswer::Shown(opened) => {
-            let at = opened.at;
-            let behind = at + opened.size;
-            entry_or_none(&db[at..behind], opened, i)
-        }
     }
 }
 
@@ -493,37 +538,17 @@ fn entry_or_none(page: &[u8], opened: Open, i: usize) -> Entry
     }
 }
 
-// Cell `i` of an opened page, with its pointer.
-fn located_in(page: &[u8], opened: Open, i: usize) -> Located
-    requires { ⌜ Fitting opened (now page) ⌝ }
-    ensures { λ r. ⌜ r ≡ locatedIn i opened (now (page .entry)) ⌝ }
-{
-    if opened.cells <= i {
-        return Located::Refused(Refusal::Plain(Reason::NoSuchCell));
-    }
-    let pointer = pointer_at(page, opened, i);
-    let shown = cell_by(page, opened, pointer);
-    match shown {
-        CellAnswer::Faulty(fault) => Located::Refused(Refusal::InCell { cell: i, fault }),
-        CellAnswer::Shown(cell) => Located::Shown {
-            opened,
-            pointer,
-            cell,
-        },
-    }
-}
-
-// Cell `i` of the page that the key names, and no other cell.
-pub fn cell_at(db: &[u8], key: usize, i: usize) -> Located
-    ensures { λ r. ⌜ r ≡ locatedOf key i (now (db .entry)) ⌝ }
+// The entry of cell `i` of the page that the key names; zeros where there is no such cell.
+pub fn entry_at(db: &[u8], key: usize, i: usize) -> Entry
+    ensures { λ r. ⌜ r ≡ entryAt key (now (db .entry)) i ⌝ }
 {
     let answer = open_page(db, key);
     match answer {
-        OpenAnswer::Refused(reason) => Located::Refused(Refusal::Plain(reason)),
+        OpenAnswer::Refused(_) => no_entry(),
         OpenAnswer::Shown(opened) => {
             let at = opened.at;
             let behind = at + opened.size;
-            located_in(&db[at..behind], opened, i)
+            entry_or_none(&db[at..behind], opened, i)
         }
     }
 }

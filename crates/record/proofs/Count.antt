@@ -1,6 +1,6 @@
 -- A record's column count is the number of its types: a walk that comes to an end has passed every one.
 use Prim.Native.Nat.{ℕ, suc, _+_, _-_}
-use mathlib.Core.Path.{_≡_, refl, sym, ap, _∙_}
+use mathlib.Core.Path.{_≡_, refl, sym}
 use mathlib.Core.List.{List}
 use mathlib.Core.Bool.{Bool, true, false}
 use native.Mathlib.Nat.{add-zero, zero-add}
@@ -18,7 +18,7 @@ use Rattle.record.specs.declared.Laid.{Laid}
 use Rattle.record.specs.declared.Laid.the-variants.{Ends, Breaks, Reserved, Passes}
 use Rattle.record.specs.declared.Fit.{Fit}
 use Rattle.record.specs.declared.Fit.the-variants.{Fits, Unfit}
-use Rattle.record.specs.Types.{Num, num, Types, done, broken, column, closed, count, walk}
+use Rattle.record.specs.Types.{num, Types, done, broken, column, closed, count, walk}
 use Rattle.record.specs.Record.{judged, typesIn, fitted}
 
 -- the columns that a walk passed, or `other` where it was stopped

@@ -1,6 +1,6 @@
 -- What a record's answer keeps of the record: callers go from the one to the other by these two laws.
 use Prim.Native.Nat.{ℕ}
-use mathlib.Core.Path.{_≡_, refl}
+use mathlib.Core.Path.{_≡_}
 use native.Mathlib.Omega.{arith}
 use Rattle.answers.specs.declared.Fault.{Fault}
 use Rattle.record.specs.declared.RecordAnswer.the-variants as ra

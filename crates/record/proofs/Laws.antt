@@ -3,9 +3,7 @@
 use Prim.Native.Nat.{ℕ, zero, suc, _+_, _-_, _≤_, _<_}
 use mathlib.Core.Path.{_≡_, refl, sym, ap, _∙_}
 use mathlib.Core.List.{List, [], _∷_}
-use mathlib.Core.Bool.{Bool, true, false}
 use native.Mathlib.Omega.{arith}
-use lib.Dec.{ltb}
 use lib.ListN.{length, take, drop, length-drop, drop-of-length-le}
 use lib.Seq.{drop-drop}
 use native.Mathlib.Nat.{le-of-eq}
@@ -16,12 +14,10 @@ use Rattle.varint.specs.declared.Varint.the-variants as vi
 use Rattle.varint.specs.declared.Cause.{Cause}
 use Rattle.varint.specs.Varint.{varintOf}
 use Rattle.varint.proofs.Laws.{length-bounds}
-use Rattle.serial.specs.declared.Width.{Width}
 use Rattle.serial.specs.declared.Width.the-variants as wi
 use Rattle.serial.specs.Serial.{widthOf}
-use Rattle.record.specs.declared.Laid.{Laid}
-use Rattle.record.specs.declared.Laid.the-variants.{Ends, Breaks, Reserved, Passes}
-use Rattle.record.specs.Types.{num, Types, done, broken, column, typed, types, typesOf, closed, walk}
+use Rattle.record.specs.declared.Laid.the-variants.{Reserved, Passes}
+use Rattle.record.specs.Types.{num, Types, done, broken, column, typed, types, typesOf, walk}
 
 -- TYPES
 

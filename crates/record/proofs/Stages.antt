@@ -1,6 +1,6 @@
 -- The stages of a record as the code comes to them.
 use Prim.Native.Nat.{ℕ, _-_, _≤_, _<_}
-use mathlib.Core.Path.{_≡_, _∙_}
+use mathlib.Core.Path.{_≡_}
 use mathlib.Core.List.{List}
 use lib.ListN.{length, drop}
 use borrow.Author.Tests.{lt-ltb, le-ltb}
@@ -15,7 +15,7 @@ use Rattle.answers.specs.declared.Fault.the-variants as fa
 use Rattle.record.specs.declared.Laid.{Laid}
 use Rattle.record.specs.declared.Fit.the-variants.{Fits, Unfit}
 use Rattle.record.specs.declared.RecordAnswer.the-variants as ra
-use Rattle.record.specs.Types.{num, Types, closed, count, walk}
+use Rattle.record.specs.Types.{Types, closed, count, walk}
 use Rattle.record.specs.Record.{headless, counted, oldJudged, fileJudged, judged, typesIn, fitted, recordOf, answerOf}
 
 -- the header's bytes, and how all lies in them

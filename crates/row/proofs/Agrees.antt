@@ -1,6 +1,6 @@
 -- An accepted page has only sound cells, and the entry of a sound cell is made of the cell.
-use Prim.Native.Nat.{ℕ, zero, suc, _+_, _≤_, _<_}
-use mathlib.Core.Path.{_≡_, refl, sym, ap, _∙_}
+use Prim.Native.Nat.{ℕ, zero, suc, _+_, _<_}
+use mathlib.Core.Path.{_≡_, refl, sym, ap}
 use mathlib.Core.List.{List}
 use mathlib.Core.Bool.{Bool, true, false}
 use native.Mathlib.Omega.{arith}
@@ -26,9 +26,7 @@ use Rattle.page.specs.Place.{pageAt}
 use Rattle.page.specs.Open.{openOf}
 use Rattle.page.specs.Entry.{pointerAt, entryBy, cellIn, entryIn}
 use Rattle.page.specs.Located.{locatedOf}
-use Rattle.page.specs.Page.{headOf, soundFrom, cellsBy, pageIn, pageBy, pageOf, entryAt}
-use Rattle.row.specs.declared.CountAnswer.the-variants as co
-use Rattle.row.specs.declared.RowAnswer.the-variants as ro
+use Rattle.page.specs.Page.{headOf, soundFrom, cellsBy, pageBy, pageOf, entryAt}
 use Rattle.row.specs.Row.{countOf, rowOf}
 use Rattle.row.specs.Agreement.{EntriesAgree}
 

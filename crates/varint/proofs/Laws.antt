@@ -1,9 +1,9 @@
 -- What callers cite of varints: how long one is, that a longer limit finds what a shorter one does, and no more of that
 -- length; and that bytes behind a varint do not matter.
 use Prim.Native.Nat.{ℕ, zero, suc, _+_, _≤_, _<_}
-use mathlib.Core.Path.{_≡_, refl}
+use mathlib.Core.Path.{_≡_}
 use mathlib.Core.Logic.{_↔_}
-use mathlib.Core.List.{List, [], _∷_, _++_}
+use mathlib.Core.List.{List, _++_}
 use native.Mathlib.Omega.{arith}
 use lib.ListN.{length}
 use Rattle.varint.specs.declared.Varint.the-variants.{Value}

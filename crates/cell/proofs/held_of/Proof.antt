@@ -1,12 +1,7 @@
 -- The payload is the part that `payload_of` finds.
-use Prim.Native.Nat.{ℕ, _≤_}
-use mathlib.Core.Path.{_≡_, sym, ap, _∙_}
+use mathlib.Core.Path.{sym, _∙_}
 use native.Mathlib.Nat.{sub-zero}
-use native.Mathlib.Omega.{arith}
-use lib.ListN.{length}
 use denote.Ref.{now}
-use Rattle.cell.specs.Kind.{mostWhole}
-use Rattle.cell.specs.Cell.{payloadIn}
 use Rattle.cell.proofs.Laws.{payload-within}
 use borrow.Author.Needs.{needs}
 use Rattle.cell.proofs.held_of.Statement.{statement}

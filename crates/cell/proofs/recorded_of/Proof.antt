@@ -1,8 +1,6 @@
 -- The record is what the record reader says of it, by its types' count.
-use Prim.Native.Nat.{ℕ, _-_}
-use mathlib.Core.Path.{_≡_, sym, ap, _∙_}
-use native.Mathlib.Omega.{arith}
-use lib.ListN.{length}
+use Prim.Native.Nat.{_-_}
+use mathlib.Core.Path.{sym, _∙_}
 use denote.Ref.{now}
 use Rattle.laws.proofs.Parts.{tail}
 use Rattle.record.specs.Types.{num}

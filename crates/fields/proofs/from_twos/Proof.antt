@@ -1,8 +1,8 @@
 -- The lower half of the patterns are the numbers themselves, the upper half those from -top on.
 use Prim.Native.Nat.{_-_, _^_, _<_}
-use mathlib.Core.Path.{sym, _∙_}
+use mathlib.Core.Path.{sym}
 use native.Mathlib.Omega.{arith}
-use lib.IntN.{pos, negsuc}
+use lib.IntN.{negsuc}
 use mir.Facts.{toZ-pos, toZ-ofZ}
 use mir.Syntax.{w64}
 use borrow.Author.Needs.{needs}

@@ -1,7 +1,7 @@
 -- The bytes read so far and those to come spell the same number at every turn.
 use Prim.Native.Nat.{_-_, _^_, _≤_, _<_}
 use mathlib.Core.Path.{_≡_, sym, _∙_}
-use native.Mathlib.Nat.{sub-zero, zero-mul, zero-add}
+use native.Mathlib.Nat.{sub-zero}
 use native.Mathlib.Omega.{arith}
 use lib.Dec.{lit<}
 use lib.ListN.{take, drop}

@@ -2,7 +2,6 @@
 use Prim.Native.Nat.{_-_, _≤_}
 use mathlib.Core.Path.{_≡_, sym, _∙_}
 use native.Mathlib.Nat.{sub-zero}
-use native.Mathlib.Omega.{arith}
 use denote.Ref.{now}
 use Rattle.page.specs.Page.{soundFrom}
 use Rattle.page.proofs.Cells.{sound-all, sound-next, sound-stops}

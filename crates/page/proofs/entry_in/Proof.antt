@@ -1,5 +1,5 @@
 -- The entry is the cell's, with its pointer.
-use mathlib.Core.Path.{_≡_, sym, ap, _∙_}
+use mathlib.Core.Path.{sym, ap, _∙_}
 use Rattle.page.specs.declared.EntryAnswer.the-variants.{Shown}
 use Rattle.page.specs.Entry.{cellIn, entryIn}
 use borrow.Author.Needs.{needs}

@@ -1,5 +1,5 @@
 -- Number by number.
-use borrow.Author.Tests.{eq-eqb, ne-eqb}
+use borrow.Author.Tests.{ne-eqb}
 use Rattle.page.proofs.kind_of.Statement.{statement}
 use Rattle.page.proofs.kind_of.Tie as tie
 

@@ -1,5 +1,5 @@
 -- The cell is the one that its pointer names.
-use mathlib.Core.Path.{_≡_, sym, _∙_}
+use mathlib.Core.Path.{sym, _∙_}
 use borrow.Author.Tests.{lt-ltb, le-ltb}
 use Rattle.page.specs.Entry.{cellIn}
 use borrow.Author.Needs.{needs}

@@ -1,11 +1,9 @@
 -- The header's answer decides first, then the page's.
-use Prim.Native.Nat.{ℕ, _/_, _≤_}
-use mathlib.Core.Path.{_≡_, sym, ap, _∙_}
-use lib.ListN.{length}
+use mathlib.Core.Path.{_≡_, sym, _∙_}
 use denote.Ref.{now}
 use Rattle.header.specs.Header.{shapeOf}
 use Rattle.header.specs.declared.ShapeAnswer.the-variants as sh
-use Rattle.page.specs.Place.{readingIn, placeOf, Lies}
+use Rattle.page.specs.Place.{readingIn}
 use Rattle.page.specs.Open.{openOf}
 use Rattle.page.proofs.Laws.{place-lies, end-within}
 use borrow.Author.Needs.{needs}

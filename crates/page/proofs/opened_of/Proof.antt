@@ -1,12 +1,10 @@
 -- Where the header itself passes the end, its pointers do.
-use Prim.Native.Nat.{ℕ, _+_, _*_, _≤_, _<_}
-use mathlib.Core.Path.{_≡_, sym, ap, _∙_}
+use Prim.Native.Nat.{_≤_, _<_}
 use native.Mathlib.Omega.{arith}
-use lib.ListN.{length}
 use denote.Ref.{now}
 use borrow.Author.Tests.{lt-ltb, le-ltb}
 use Rattle.laws.proofs.Parts.{tail}
-use Rattle.page.specs.Open.{headSize, cellsAt, pointersEnd}
+use Rattle.page.specs.Open.{cellsAt, pointersEnd}
 use Rattle.page.proofs.Laws.{head-small}
 use borrow.Author.Needs.{needs}
 use Rattle.page.proofs.opened_of.Statement.{statement}

@@ -1,8 +1,6 @@
 -- Pages are counted by a division, and laid out by a product.
-use Prim.Native.Nat.{ℕ, _*_, _/_, _≤_, _<_}
-use mathlib.Core.Path.{_≡_, sym, ap, _∙_}
+use mathlib.Core.Path.{sym}
 use native.Mathlib.Omega.{arith}
-use Rattle.page.specs.declared.Place.the-variants.{At}
 use Rattle.page.proofs.Laws.{place-there, place-within, place-not, place-empty}
 use borrow.Author.Needs.{needs}
 use Rattle.page.proofs.place_from.Statement.{statement}

@@ -1,5 +1,4 @@
 -- Each reading counts in its own way.
-use borrow.Author.Tests.{eq-eqb, ne-eqb}
 use Rattle.page.specs.Place.{placeOf}
 use borrow.Author.Needs.{needs}
 use Rattle.page.proofs.place_of.Statement.{statement}
@@ -8,39 +7,24 @@ use Rattle.page.proofs.place_of.Tie as tie
 enum-told : tie.Need-enum-told
 enum-told c = search needs
 
-place-from-requires : tie.Need-place-from-requires
-place-from-requires c κs = search needs
-
-returns : tie.Need-returns
-unfolding placeOf
-returns c = rw (c .before .enum-told .given .1) (c .place-from .ensures)
+old-place-requires : tie.Need-old-place-requires
+old-place-requires c κs = search needs
 
 enum-told-2 : tie.Need-enum-told-2
 enum-told-2 c = search needs
 
+file-place-requires : tie.Need-file-place-requires
+file-place-requires c κs = search needs
+
+returns : tie.Need-returns
+unfolding placeOf
+returns c = rw (c .before .enum-told .given .1) (c .old-place .ensures)
+
 returns-2 : tie.Need-returns-2
 unfolding placeOf
-returns-2 c = rw (c .before .enum-told2 .given .1, eq-eqb _ 0 (c .if1 .taken))
-
-sub-place-from : tie.Need-sub-place-from
-sub-place-from c = search needs
-
-place-from-requires-2 : tie.Need-place-from-requires-2
-place-from-requires-2 c κs = search needs
-
-returns-3 : tie.Need-returns-3
-unfolding placeOf
-returns-3 c = rw (c .before .before .enum-told2 .given .1, ne-eqb _ 0 (c .before .if1 .left)) (c .place-from2 .ensures)
+returns-2 c = rw (c .before .enum-told2 .given .1) (c .file-place .ensures)
 
 pub place-of-spec : {M : Type 1} → statement M
 place-of-spec =
     tie.close
-    (tie.spec
-    enum-told
-    place-from-requires
-    returns
-    enum-told-2
-    returns-2
-    sub-place-from
-    place-from-requires-2
-    returns-3)
+    (tie.spec enum-told old-place-requires enum-told-2 file-place-requires returns returns-2)

@@ -1,11 +1,10 @@
 -- The page is the part of the bytes that its place names.
-use Prim.Native.Nat.{ℕ, _+_, _-_, _≤_}
-use mathlib.Core.Path.{_≡_, sym, ap, _∙_}
+use Prim.Native.Nat.{_+_, _-_, _≤_}
+use mathlib.Core.Path.{_≡_, sym, _∙_}
 use native.Mathlib.Omega.{arith}
-use lib.ListN.{length, take, drop}
+use lib.ListN.{length}
 use denote.Ref.{now}
 use borrow.Author.Tests.{lt-ltb, le-ltb}
-use Rattle.page.specs.Place.{pageAt}
 use Rattle.page.proofs.Laws.{page-length}
 use borrow.Author.Needs.{needs}
 use Rattle.page.proofs.placed_of.Statement.{statement}

@@ -1,6 +1,4 @@
 -- The pointers stand behind the page's header, two bytes each.
-use Prim.Native.Nat.{_<_}
-use mathlib.Core.Path.{_≡_}
 use native.Mathlib.Omega.{arith}
 use denote.Ref.{now}
 use Rattle.laws.proofs.Parts.{tail}

@@ -1,5 +1,4 @@
 -- Case by case; that the types end is what `types_end` says.
-use mathlib.Core.Path.{sym}
 use borrow.Author.Tests.{eq-eqb, ne-eqb}
 use borrow.Author.Needs.{needs}
 use Rattle.record.proofs.file_judged.Statement.{statement}

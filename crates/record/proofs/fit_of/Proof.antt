@@ -1,14 +1,12 @@
 -- The tests are the definition's; how all lies is what `lay` says of the header's bytes.
-use Prim.Native.Nat.{ℕ, _-_, _≤_}
+use Prim.Native.Nat.{_-_}
 use mathlib.Core.Path.{_≡_, sym, ap, _∙_}
 use native.Mathlib.Nat.{sub-zero}
-use native.Mathlib.Omega.{arith}
 use lib.ListN.{length}
 use denote.Ref.{now}
 use Rattle.reading.specs.Reading.{limit}
-use Rattle.record.specs.declared.Laid.{Laid}
-use Rattle.record.specs.Types.{closed, walk}
-use Rattle.record.specs.Record.{oldJudged, fileJudged, typesIn}
+use Rattle.record.specs.Types.{walk}
+use Rattle.record.specs.Record.{oldJudged, typesIn}
 use Rattle.record.proofs.Stages.{fit-below, fit-short, fit-laid, judged-old, judged-file}
 use borrow.Author.Needs.{needs}
 use Rattle.record.proofs.fit_of.Statement.{statement}

@@ -9,7 +9,6 @@ use Rattle.reading.specs.Reading.{limit}
 use Rattle.varint.specs.declared.Varint.the-variants as vi
 use Rattle.varint.specs.Varint.{varintOf}
 use Rattle.varint.proofs.Laws.{length-bounds}
-use Rattle.record.specs.declared.Fit.{Fit}
 use Rattle.record.specs.declared.RecordAnswer.the-variants as ra
 use Rattle.record.specs.Record.{counted, fitted}
 use Rattle.record.proofs.Stages.{record-headless, record-unfit, record-whole}

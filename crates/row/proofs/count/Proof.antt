@@ -1,5 +1,5 @@
 -- The count is the located cell's.
-use mathlib.Core.Path.{_≡_, sym, _∙_}
+use mathlib.Core.Path.{sym, _∙_}
 use Rattle.row.specs.Row.{countOf}
 use borrow.Author.Needs.{needs}
 use Rattle.row.proofs.count.Statement.{statement}

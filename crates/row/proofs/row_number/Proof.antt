@@ -1,5 +1,5 @@
 -- The row number is the located cell's, as 64 bits of two's complement.
-use mathlib.Core.Path.{_≡_, sym, ap, _∙_}
+use mathlib.Core.Path.{sym, ap, _∙_}
 use mir.Syntax.{w64}
 use mir.Facts.{toZ-ofZ}
 use Rattle.row.specs.declared.RowAnswer.the-variants as ro

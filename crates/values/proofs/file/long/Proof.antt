@@ -1,8 +1,5 @@
 -- The tests on the type are the definition's, and one sum is the length of both.
 use Prim.Native.Nat.{_%_}
-use mathlib.Core.Path.{_≡_, sym}
-use native.Mathlib.Omega.{arith}
-use borrow.Author.Needs.{needs}
 use borrow.Author.Tests.{lt-ltb, le-ltb, eq-eqb, ne-eqb}
 use Rattle.serial.proofs.Laws.{length-either}
 use Rattle.values.proofs.file.long.Statement.{statement}

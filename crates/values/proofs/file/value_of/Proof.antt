@@ -1,13 +1,13 @@
 -- At each type the definition computes to the reader that the code calls.
 use Prim.Native.Nat.{zero-le, _≤_}
-use mathlib.Core.Path.{_≡_, sym, ap, _∙_}
+use mathlib.Core.Path.{sym, ap, _∙_}
 use mir.Syntax.{w8, w16, w32, w64}
 use mir.Facts.{toZ-ofZ}
 use denote.Ref.{now}
 use borrow.Author.Needs.{needs}
 use Rattle.laws.proofs.Casts.{widen-fits, widen-same}
 use Rattle.values.specs.File.{valueOf}
-use Rattle.values.specs.declared.file.Value.the-variants.{Integer, Real}
+use Rattle.values.specs.declared.file.Value.the-variants.{Integer}
 use Rattle.values.proofs.Laws.{past, file-long}
 use Rattle.values.proofs.file.value_of.Statement.{statement}
 use Rattle.values.proofs.file.value_of.Tie as tie

@@ -1,12 +1,12 @@
 -- At each type the definition computes to the reader that the code calls.
 use Prim.Native.Nat.{zero-le, _≤_}
-use mathlib.Core.Path.{_≡_, sym, ap, _∙_}
+use mathlib.Core.Path.{sym, ap, _∙_}
 use mir.Syntax.{w8, w16, w32, w64}
 use mir.Facts.{toZ-ofZ}
 use denote.Ref.{now}
 use borrow.Author.Needs.{needs}
 use Rattle.values.specs.Old.{valueOf}
-use Rattle.values.specs.declared.old.Value.the-variants.{I8, I16, I32, I64, F64}
+use Rattle.values.specs.declared.old.Value.the-variants.{I8, I16, I32, I64}
 use Rattle.values.proofs.Laws.{past, old-long, old-constant}
 use Rattle.values.proofs.old.value_of.Statement.{statement}
 use Rattle.values.proofs.old.value_of.Tie as tie

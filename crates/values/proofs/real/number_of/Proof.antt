@@ -1,5 +1,4 @@
 -- A NaN is made by a division, since no pattern of one may be taken for a number.
-use mathlib.Core.Path.{_∙_}
 use borrow.Author.Needs.{needs}
 use Rattle.values.proofs.Laws.{no-nan, the-nan}
 use Rattle.values.proofs.real.number_of.Statement.{statement}
