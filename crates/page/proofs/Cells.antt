@@ -1,11 +1,16 @@
--- One cell more of a page, and where a cell begins.
-use Prim.Native.Nat.{ℕ, suc, _+_, _-_, _≤_, _<_}
+-- One cell more of a page, where a cell begins, and that the Rust's row numbers are the same numbers.
+use Prim.Native.Nat.{ℕ, suc, _+_, _-_, _≤_, _<_, _*_, _^_}
 use mathlib.Core.Path.{_≡_, refl}
 use mathlib.Core.List.{List}
 use mathlib.Core.Bool.{Bool, true, false, _||_}
 use native.Mathlib.Omega.{arith}
 use lib.Dec.{ltb, leb}
-use borrow.Author.Tests.{ltb-false, leb-false}
+use lib.IntN.{pos}
+use borrow.Author.Tests.{ltb-false, leb-false, lt-ltb}
+use Rattle.fields.specs.Fields.{twos}
+use Rattle.varint.specs.declared.Varint.the-variants.{Value}
+use Rattle.varint.specs.Varint.{varintOf}
+use Rattle.varint.proofs.Laws.{value-below}
 use Rattle.reading.specs.declared.Reading.{Reading}
 use Rattle.reading.specs.declared.Reading.the-variants.{Old as old, File as file}
 use Rattle.answers.specs.declared.Fault.{Fault}
@@ -14,7 +19,7 @@ use Rattle.page.specs.declared.Entry.{Entry}
 use Rattle.page.specs.declared.EntryAnswer.the-variants as ea
 use Rattle.page.specs.declared.Sound.the-variants as so
 use Rattle.page.specs.Open.{pointersEnd}
-use Rattle.page.specs.Entry.{outside, entryIn}
+use Rattle.page.specs.Entry.{outside, rowNumber, entryIn}
 use Rattle.page.specs.Page.{soundFrom}
 
 -- of n cells, i are sound
@@ -45,3 +50,8 @@ inside old o p e = ltb-false (o .end) p (or-false (ltb (o .end) p) (ltb p (o .fr
 inside file o p e =
     let l = leb-false (o .end) p (or-false (ltb p (pointersEnd (o .from) (o .kind) (o .cells))) (leb (o .end) p) e .1) in
     omega arith
+
+-- a row number that the Rust reads, of five bytes at most, is itself as two's complement
+pub old-row : (s : List ℕ) {v n : ℕ} → varintOf 5 s ≡ Value v n → rowNumber v ≡ pos v
+unfolding twos
+old-row s {v} e = let l = value-below s 5 (omega arith) e in rw (lt-ltb (2 * v) (2 ^ 64) (omega arith))

@@ -37,7 +37,7 @@ abbrev pub partAt : Open → ℕ → List ℕ → List ℕ
 partAt o p page = take (o .end - p) (drop p page)
 
 -- a row number or key: 64 bits of two's complement (1.6). The Rust's is unsigned and has five bytes at most, so it is below
--- 2 ^ 35 and the same number
+-- 2 ^ 35 and the same number (proofs/Cells.antt, `old-row`)
 abbrev pub rowNumber : ℕ → ℤ
 rowNumber v = twos (2 ^ 64) v
 

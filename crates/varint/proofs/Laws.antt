@@ -1,11 +1,13 @@
 -- What callers cite of varints: how long one is, that a longer limit finds what a shorter one does, and no more of that
--- length; and that bytes behind a varint do not matter.
-use Prim.Native.Nat.{ℕ, zero, suc, _+_, _≤_, _<_}
+-- length; that bytes behind a varint do not matter; and how large a number of at most eight bytes is.
+use Prim.Native.Nat.{ℕ, zero, suc, _+_, _*_, _%_, _^_, _≤_, _<_}
 use mathlib.Core.Path.{_≡_}
 use mathlib.Core.Logic.{_↔_}
 use mathlib.Core.List.{List, _++_}
 use native.Mathlib.Omega.{arith}
+use lib.Dec.{lit<}
 use lib.ListN.{length}
+use Rattle.laws.proofs.Powers.{digit-more, digits-within}
 use Rattle.varint.specs.declared.Varint.the-variants.{Value}
 use Rattle.varint.specs.Varint.{varintOf}
 use Rattle.varint.proofs.Found.{Reads, ninth, last, next, found, is-found}
@@ -34,10 +36,20 @@ continued z (ninth h p q) = ninth h p q
 continued z (last h b p q) = last h b p q
 continued z (next h b r) = next h b (continued z r)
 
+-- seven bits a byte, where the ninth is not come to
+small : {k n v x m : ℕ} {s : List ℕ} → n + k ≤ 8 → v < 128 ^ n → Reads x m k n v s → x < 128 ^ m
+small l b (ninth h p q) = absurd (omega arith)
+small {n = n} l b (last h c p q) = rw (← p, ← q) (digit-more 128 n b c)
+small {n = n} l b (next h c r) = small (omega arith) (digit-more 128 n b (omega arith)) r
+
 module _ (s : List ℕ) {x m : ℕ} where
   -- a varint takes one byte at least, and no more than the limit, the bytes there are, and nine
   pub length-bounds : (limit : ℕ) → varintOf limit s ≡ Value x m → (1 ≤ m) × (m ≤ limit) × (m ≤ length s) × (m ≤ 9)
   length-bounds limit e = let t = took {n = 0} (omega arith) (found limit 0 0 s e) in omega arith
+
+  pub value-below : (limit : ℕ) → limit ≤ 8 → varintOf limit s ≡ Value x m → x < 128 ^ limit
+  value-below limit h e =
+      digits-within 128 m limit (lit< tt) (length-bounds limit e .1) (small {n = 0} (omega arith) (lit< tt) (found limit 0 0 s e))
 
   pub longer-limit : (k j : ℕ) → k ≤ j → varintOf k s ≡ Value x m → varintOf j s ≡ Value x m
   longer-limit k j h e = is-found (widened j h (found k 0 0 s e))

@@ -1,7 +1,9 @@
 -- Each answer is the definition's for its tests.
-use Prim.Native.Nat.{_+_, _-_}
-use mathlib.Core.Path.{_≡_}
+use Prim.Native.Nat.{ℕ, _+_, _-_}
+use mathlib.Core.Path.{_≡_, ap}
 use native.Mathlib.Omega.{arith}
+use lib.ListN.{take, drop}
+use denote.Ref.{now}
 use borrow.Author.Needs.{needs}
 use borrow.Author.Tests.{lt-ltb, le-ltb}
 use Rattle.values.specs.Part.{partOf}
@@ -54,7 +56,8 @@ unfolding partOf
 returns-3 c =
     let a = c .before .before .before .args in
     let e : a .at + a .len - a .at ≡ a .len = omega arith in
-    rw (le-ltb _ _ (c .before .before .if1 .left), le-ltb _ _ (c .before .if2 .left), e)
+    rw (le-ltb _ _ (c .before .before .if1 .left), le-ltb _ _ (c .before .if2 .left))
+    (ap (λ (n : ℕ). take n (drop (a .at) (now (a .s)))) e)
 
 pub part-spec : {M : Type 1} → statement M
 part-spec =
