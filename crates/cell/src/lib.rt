@@ -80,7 +80,7 @@ fn has_size(kind: Kind) -> bool
     }
 }
 
-fn has_row(kind: Kind) -> bool
+pub fn has_row(kind: Kind) -> bool
     ensures { λ r. ⌜ r ≡ hasRow kind ⌝ }
 {
     match kind {

@@ -1,6 +1,6 @@
 -- What a caller has of a header: the bounds of its sizes, and what its checks and answers say.
 use Prim.Native.Nat.{ℕ, zero, suc, _≤_}
-use mathlib.Core.Path.{_≡_, refl, sym}
+use mathlib.Core.Path.{_≡_, refl, sym, _∙_}
 use mathlib.Core.List.{List, [], _∷_, _++_}
 use mathlib.Core.Bool.{Bool, true, false}
 use native.Mathlib.Nat.{le-refl, le-of-lt}
@@ -9,6 +9,7 @@ use lib.Dec.{eqb}
 use lib.ListN.{length, drop}
 use borrow.Author.Tests.{ltb-false}
 use Rattle.laws.specs.Pick.{pick}
+use Rattle.laws.proofs.Never.{never}
 use Rattle.fields.proofs.Laws.{Bytes, unsigned-below, bytes-drop}
 use Rattle.reading.specs.declared.Reading.{Reading}
 use Rattle.reading.specs.declared.Reading.the-variants.{Old as old, File as file}
@@ -76,6 +77,15 @@ module _ (db : List ℕ) where
   unfolding checkedOf
   goes-on h = passed-then (bothChecks db) (fileChecks db) h
 
+-- what the file reading lets pass, the old one does
+pub old-passed : (db : List ℕ) → checkedOf file db ≡ Passed → checkedOf old db ≡ Passed
+unfolding checkedOf
+old-passed db p = go (first (bothChecks db)) refl
+  where
+    go : (x : Checked) → first (bothChecks db) ≡ x → first (bothChecks db) ≡ Passed
+    go Passed i = i
+    go (Failed reason) i = let e = sym (failed-then (bothChecks db) (fileChecks db) reason i) ∙ p in never cc
+
 pub passed-limit : (r : Reading) (db : List ℕ) → checkedOf r db ≡ Passed → length db ≤ 1073741824
 unfolding checkedOf
 passed-limit old db h = ltb-false 1073741824 (length db) (passes (bothChecks db) h 0)
@@ -120,6 +130,10 @@ module _ (r : Reading) (db : List ℕ) where
   pub shape-shown : (s : Shape) → shapeOf r db ≡ sh.Shown s → (checkedOf r db ≡ Passed) × (s ≡ shapeIn r db)
   unfolding shapeOf
   shape-shown s e = shape-by-shown (shapeIn r db) (checkedOf r db) s e
+
+  pub shape-passed : checkedOf r db ≡ Passed → shapeOf r db ≡ sh.Shown (shapeIn r db)
+  unfolding shapeOf
+  shape-passed p = rw p
 
   pub shape-refused : (reason : Reason) → shapeOf r db ≡ sh.Refused reason → checkedOf r db ≡ Failed reason
   unfolding shapeOf

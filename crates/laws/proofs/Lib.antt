@@ -3,3 +3,4 @@ pub mod Table
 pub mod Powers
 pub mod Casts
 pub mod Parts
+pub mod Never

@@ -1,7 +1,9 @@
 // How a varint and a value are written.
-ghost use mathlib.Core.Path.{_≡_};
 use print::bits;
 use print::hex;
+use print::narrow::from_i8;
+use print::narrow::from_i16;
+use print::narrow::from_i32;
 use print::number;
 use print::signed;
 use print::text;
@@ -45,25 +47,6 @@ pub fn file_value(v: file::Value, s: &[u8]) {
         file::Value::Blob { at, len } => long(b"b:", s, at, len),
         file::Value::Text { at, len } => long(b"t:", s, at, len),
     }
-}
-
-// The narrow integers at 64 bits. Each has a function of its own, since a parameter is known to fit its type.
-fn from_i8(z: i8) -> i64
-    ensures { λ r. ⌜ r ≡ z ⌝ }
-{
-    z as i64
-}
-
-fn from_i16(z: i16) -> i64
-    ensures { λ r. ⌜ r ≡ z ⌝ }
-{
-    z as i64
-}
-
-fn from_i32(z: i32) -> i64
-    ensures { λ r. ⌜ r ≡ z ⌝ }
-{
-    z as i64
 }
 
 fn integer(kind: &[u8], z: i64) {

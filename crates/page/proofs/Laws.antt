@@ -1,5 +1,5 @@
--- Where pages lie, and what is so of one that is opened.
-use Prim.Native.Nat.{ℕ, suc, zero-le, _+_, _-_, _*_, _/_, _≤_, _<_}
+-- What a key names, where pages lie, and what is so of one that is opened.
+use Prim.Native.Nat.{ℕ, suc, zero-le, _+_, _-_, _*_, _/_, _%_, _≤_, _<_}
 use mathlib.Core.Path.{_≡_, refl}
 use mathlib.Core.List.{List}
 use mathlib.Core.Bool.{Bool, true, false}
@@ -8,7 +8,7 @@ use native.Mathlib.Omega.{arith}
 use lib.Dec.{ltb, eqb}
 use lib.ListN.{length, drop, length-drop}
 use lib.Seq.{length-take-le}
-use borrow.Author.Tests.{ltb-false, lt-ltb, le-ltb}
+use borrow.Author.Tests.{ltb-false, lt-ltb, le-ltb, eq-eqb, ne-eqb}
 use Rattle.laws.specs.Pick.{pick}
 use Rattle.reading.specs.declared.Reading.{Reading}
 use Rattle.reading.specs.declared.Reading.the-variants.{Old as old, File as file}
@@ -19,8 +19,23 @@ use Rattle.header.proofs.Laws.{shape-shown, usable-below}
 use Rattle.cell.specs.declared.Kind.{Kind}
 use Rattle.cell.specs.declared.Kind.the-variants.{InteriorIndex, InteriorTable, LeafIndex, LeafTable}
 use Rattle.page.specs.declared.Place.the-variants.{At, Absent}
-use Rattle.page.specs.Place.{headerAt, placeFrom, placeOf, pageAt, Lies}
+use Rattle.page.specs.Place.{oldKey, fileKey, readingIn, numberIn, headerAt, placeFrom, placeOf, pageAt, Lies}
 use Rattle.page.specs.Open.{headSize}
+
+-- KEYS
+
+module _ (n : ℕ) where
+  pub old-reading : readingIn (oldKey n) ≡ old
+  old-reading = rw (eq-eqb (oldKey n % 2) 0 (omega arith))
+
+  pub old-number : numberIn (oldKey n) ≡ n
+  old-number = omega arith
+
+  pub file-reading : readingIn (fileKey n) ≡ file
+  file-reading = rw (ne-eqb (fileKey n % 2) 0 (omega arith))
+
+  pub file-number : numberIn (fileKey n) ≡ n
+  file-number = omega arith
 
 -- PLACES
 

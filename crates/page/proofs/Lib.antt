@@ -1,3 +1,5 @@
 pub mod Laws
 pub mod Cells
 pub mod Opened
+pub mod Found
+pub mod Named

@@ -78,6 +78,20 @@ shapedBy r number db (sh.Shown shape) =
 unfoldable pub openOf : ℕ → List ℕ → OpenAnswer
 openOf key db = shapedBy (readingIn key) (numberIn key) db (shapeOf (readingIn key) db)
 
+-- THE KIND BY ITSELF, where header and place let its byte be looked at
+
+abbrev pub kindPlaced : ℕ → List ℕ → Place → KindAnswer
+kindPlaced size db Absent = Unknown
+kindPlaced size db (At at from) = pick (ltb size from) Unknown (kindAt from (pageAt at size db))
+
+abbrev pub kindShaped : Reading → ℕ → List ℕ → ShapeAnswer → KindAnswer
+kindShaped r number db (sh.Refused reason) = Unknown
+kindShaped r number db (sh.Shown shape) =
+    kindPlaced (shape .«page_size») db (placeOf r (length db) (shape .«page_size») number)
+
+unfoldable pub kindIn : ℕ → List ℕ → KindAnswer
+kindIn key db = kindShaped (readingIn key) (numberIn key) db (shapeOf (readingIn key) db)
+
 -- WHAT IS SO OF AN OPENED PAGE, with its bytes: what the readers of its cells may count on
 
 pub record Fitting (o : Open) (page : List ℕ) : Type 0 where

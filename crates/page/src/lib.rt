@@ -6,7 +6,7 @@ ghost use mathlib.Core.Path.{_≡_};
 ghost use Prim.Native.Nat.{_+_, _*_, _≤_, _<_};
 ghost use lib.ListN.{length};
 ghost use Rattle.page.specs.Place.{oldKey, fileKey, readingIn, headerAt, placeFrom, oldPlace, filePlace, placeOf, Lies};
-ghost use Rattle.page.specs.Open.{kindOf, kindAt, headSize, cellsAt, pointersEnd, opened, placedBy, openOf, Fitting};
+ghost use Rattle.page.specs.Open.{kindOf, kindAt, headSize, cellsAt, pointersEnd, opened, placedBy, openOf, kindPlaced, kindIn, Fitting};
 ghost use Rattle.page.specs.Entry.{pointerAt, outside, entryFrom, cellBy, entryIn};
 ghost use Rattle.page.specs.Located.{locatedIn, locatedOf};
 ghost use Rattle.page.specs.Page.{contentStart, rightmostOf, headOf, soundFrom, pageIn, pageOf, none, entryOr, entryAt, written};
@@ -236,6 +236,40 @@ pub fn open_page(db: &[u8], key: usize) -> OpenAnswer
         ShapeAnswer::Shown(shape) => {
             let place = place_of(reading, db.len(), shape.page_size, key / 2);
             placed_of(db, reading, shape.page_size, shape.end, place)
+        }
+    }
+}
+
+// The kind of a page at a place of the bytes.
+fn placed_kind(db: &[u8], size: u32, place: Place) -> KindAnswer
+    requires { ⌜ Lies size (length (now db)) place ⌝ }
+    ensures { λ r. ⌜ r ≡ kindPlaced size (now (db .entry)) place ⌝ }
+{
+    match place {
+        Place::Absent => {
+            return KindAnswer::Unknown;
+        }
+        Place::At { at, from } => {
+            if (size as usize) < from {
+                return KindAnswer::Unknown;
+            }
+            let behind = at + size as usize;
+            return kind_at(&db[at..behind], from);
+        }
+    }
+}
+
+// The kind of the page that the key names, where header and place let its byte be looked at.
+pub fn kind_in(db: &[u8], key: usize) -> KindAnswer
+    ensures { λ r. ⌜ r ≡ kindIn key (now (db .entry)) ⌝ }
+{
+    let reading = reading_in(key);
+    let shaped = header::shape_of(db, reading);
+    match shaped {
+        ShapeAnswer::Refused(_) => KindAnswer::Unknown,
+        ShapeAnswer::Shown(shape) => {
+            let place = place_of(reading, db.len(), shape.page_size, key / 2);
+            placed_kind(db, shape.page_size, place)
         }
     }
 }

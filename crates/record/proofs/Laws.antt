@@ -7,7 +7,7 @@ use native.Mathlib.Omega.{arith}
 use lib.ListN.{length, take, drop, length-drop, drop-of-length-le}
 use lib.Seq.{drop-drop}
 use native.Mathlib.Nat.{le-of-eq}
-use borrow.Author.Tests.{lt-ltb, le-ltb}
+use borrow.Author.Tests.{lt-ltb, le-ltb, ne-eqb}
 use Rattle.laws.proofs.Parts.{tail}
 use Rattle.varint.specs.declared.Varint.{Varint}
 use Rattle.varint.specs.declared.Varint.the-variants as vi
@@ -17,7 +17,7 @@ use Rattle.varint.proofs.Laws.{length-bounds}
 use Rattle.serial.specs.declared.Width.the-variants as wi
 use Rattle.serial.specs.Serial.{widthOf}
 use Rattle.record.specs.declared.Laid.the-variants.{Reserved, Passes}
-use Rattle.record.specs.Types.{num, Types, done, broken, column, typed, types, typesOf, walk}
+use Rattle.record.specs.Types.{num, Types, done, broken, column, typed, types, typesOf, nthType, walk}
 
 -- TYPES
 
@@ -80,6 +80,9 @@ module _ (limit : ℕ) (t : List ℕ) (at : ℕ) where
 
   pub types-end : length t ≤ at → typesOf limit (drop at t) ≡ done
   types-end h = rw (drop-of-length-le t h) (types-nil limit)
+
+pub nth-next : (k t m : ℕ) (rest : Types) → nthType (suc k) (column (num t m) rest) ≡ nthType k rest
+nth-next k t m rest = let e : suc k - 1 ≡ k = omega arith in rw (ne-eqb (suc k) 0 (λ z. omega arith), e)
 
 -- VALUES
 

@@ -2,3 +2,6 @@ pub mod Laws
 pub mod Stages
 pub mod Count
 pub mod Kept
+pub mod Spelt
+pub mod Accepted
+pub mod Room

@@ -6,8 +6,9 @@
 use Prim.Native.Nat.{ℕ, zero, suc, _+_, _-_}
 use mathlib.Core.List.{List, [], _∷_}
 use mathlib.Core.Bool.{Bool, true, false}
-use lib.Dec.{ltb}
+use lib.Dec.{ltb, eqb}
 use lib.ListN.{length, drop}
+use Rattle.laws.specs.Pick.{pick}
 use Rattle.varint.specs.declared.Varint.{Varint}
 use Rattle.varint.specs.declared.Varint.the-variants as vi
 use Rattle.varint.specs.Varint.{varintOf}
@@ -46,6 +47,12 @@ abbrev pub count : Types → ℕ
 count done = 0
 count broken = 0
 count (column t rest) = suc (count rest)
+
+-- type k, the first being type 0; 0 where there is none
+abbrev pub nthType : ℕ → Types → ℕ
+nthType k done = 0
+nthType k broken = 0
+nthType k (column (num t n) rest) = pick (eqb k 0) t (nthType (k - 1) rest)
 
 -- whether the types end where their bytes do
 abbrev pub closed : Types → Bool

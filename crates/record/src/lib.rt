@@ -183,7 +183,8 @@ fn headless_fault(reading: Reading) -> Fault
     }
 }
 
-fn counted_of(reading: Reading, own: usize) -> u64
+// How many of its own bytes a header size counts.
+pub fn counted_of(reading: Reading, own: usize) -> u64
     ensures { λ r. ⌜ r ≡ counted reading own ⌝ }
 {
     match reading {

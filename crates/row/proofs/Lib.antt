@@ -1,1 +1,4 @@
 pub mod Agrees
+pub mod Placed
+pub mod Told
+pub mod Columns

@@ -1,12 +1,13 @@
 -- What callers cite of varints: how long one is, that a longer limit finds what a shorter one does, and no more of that
--- length; that bytes behind a varint do not matter; and how large a number of at most eight bytes is.
-use Prim.Native.Nat.{ℕ, zero, suc, _+_, _*_, _%_, _^_, _≤_, _<_}
+-- length; that bytes behind a varint do not matter and are left there; and how large a number of at most eight bytes is.
+use Prim.Native.Nat.{ℕ, zero, suc, _+_, _^_, _≤_, _<_}
 use mathlib.Core.Path.{_≡_}
 use mathlib.Core.Logic.{_↔_}
 use mathlib.Core.List.{List, _++_}
 use native.Mathlib.Omega.{arith}
 use lib.Dec.{lit<}
-use lib.ListN.{length}
+use lib.ListN.{length, drop}
+use lib.Seq.{drop-append-le}
 use Rattle.laws.proofs.Powers.{digit-more, digits-within}
 use Rattle.varint.specs.declared.Varint.the-variants.{Value}
 use Rattle.varint.specs.Varint.{varintOf}
@@ -54,11 +55,18 @@ module _ (s : List ℕ) {x m : ℕ} where
   pub longer-limit : (k j : ℕ) → k ≤ j → varintOf k s ≡ Value x m → varintOf j s ≡ Value x m
   longer-limit k j h e = is-found (widened j h (found k 0 0 s e))
 
+  -- two limits that both find a number find the same
+  pub same-number : (k j : ℕ) {y n : ℕ} → k ≤ j → varintOf k s ≡ Value x m → varintOf j s ≡ Value y n → (x ≡ y) × (m ≡ n)
+  same-number k j h e f = let g = longer-limit k j h e in (cc, cc)
+
   pub shorter-limit : (k j : ℕ) → m ≤ k → varintOf j s ≡ Value x m → varintOf k s ≡ Value x m
   shorter-limit k j h e = is-found (narrowed k (omega arith) (omega arith) (found j 0 0 s e))
 
   pub bytes-behind : (limit : ℕ) (z : List ℕ) → varintOf limit s ≡ Value x m → varintOf limit (s ++ z) ≡ Value x m
   bytes-behind limit z e = is-found (continued z (found limit 0 0 s e))
+
+  pub left-behind : (limit : ℕ) (z : List ℕ) → varintOf limit s ≡ Value x m → drop m (s ++ z) ≡ drop m s ++ z
+  left-behind limit z e = drop-append-le m s z (length-bounds limit e .2)
 
   -- the reading of nine bytes finds a varint of at most five exactly where that of five finds it
   pub five-of-nine : (varintOf 5 s ≡ Value x m) ↔ ((varintOf 9 s ≡ Value x m) × (m ≤ 5))

@@ -5,6 +5,7 @@ use std::io::{self, Write};
 use sqlite_parser_nom::model::{DbHeader, TextEncoding};
 use sqlite_parser_nom::Reader;
 
+use crate::alone;
 use crate::ask::ask;
 use crate::cells::{view, CellView, PageView};
 use crate::values::{self, VARIANTS};
@@ -17,7 +18,9 @@ pub fn print(out: &mut impl Write, index: usize, bytes: &[u8]) -> io::Result<()>
             print_header(out, &reader.header)?;
             let size = reader.header.page_size.real_size();
             for number in 0..=last_page(bytes.len(), size) {
-                print_page(out, &reader, number)?;
+                if !print_page(out, &reader, number)? {
+                    alone::print(out, bytes, size, number)?;
+                }
             }
             Ok(())
         }
@@ -66,9 +69,13 @@ fn print_header(out: &mut impl Write, h: &DbHeader) -> io::Result<()> {
     writeln!(out)
 }
 
-fn print_page(out: &mut impl Write, reader: &Reader<&[u8]>, number: u32) -> io::Result<()> {
+/// Answers whether the original shows the page.
+fn print_page(out: &mut impl Write, reader: &Reader<&[u8]>, number: u32) -> io::Result<bool> {
     let page = match ask(|| reader.get_page(number)) {
-        Err(refusal) => return writeln!(out, "page {number} refused {refusal}"),
+        Err(refusal) => {
+            writeln!(out, "page {number} refused {refusal}")?;
+            return Ok(false);
+        }
         Ok(page) => page,
     };
     let page = view(&page);
@@ -77,7 +84,7 @@ fn print_page(out: &mut impl Write, reader: &Reader<&[u8]>, number: u32) -> io::
     for (index, (cell, pointer)) in cells {
         print_cell(out, index, page.kind, *pointer, cell)?;
     }
-    Ok(())
+    Ok(true)
 }
 
 fn print_head(out: &mut impl Write, number: u32, page: &PageView) -> io::Result<()> {
@@ -102,9 +109,5 @@ fn print_cell(
         out,
         "cell {index} {kind} {pointer} {child} {size} {row} {header} {columns}"
     )?;
-    for value in cell.values {
-        write!(out, " ")?;
-        values::print(out, &VARIANTS, value)?;
-    }
-    writeln!(out)
+    values::print_all(out, &VARIANTS, cell.values)
 }

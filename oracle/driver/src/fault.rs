@@ -31,15 +31,14 @@ impl From<io::Error> for Fault {
 }
 
 /// Standard error belongs to the original's `dbg!` and leads nowhere, so
-/// messages take descriptor 3; without one, standard error has to do.
+/// messages take descriptor 3; without one, what standard error leads to.
 pub fn tell(message: &str) {
     let line = format!("oracle: {message}\n");
-    let sent = OpenOptions::new()
-        .append(true)
-        .open("/dev/fd/3")
-        .and_then(|mut way| way.write_all(line.as_bytes()));
-    if sent.is_err() {
-        // Nothing is left to be done if this fails too.
-        let _ = io::stderr().write_all(line.as_bytes());
-    }
+    // Nothing is left to be done if both fail.
+    let _ = send("/dev/fd/3", &line).or_else(|_| send("/dev/stderr", &line));
+}
+
+fn send(way: &str, line: &str) -> io::Result<()> {
+    let mut file = OpenOptions::new().append(true).open(way)?;
+    file.write_all(line.as_bytes())
 }

@@ -1,11 +1,13 @@
 //! Prints everything the original shows of a database. See oracle/README.md.
 
+mod alone;
 mod answers;
 mod ask;
 mod cases;
 mod cells;
 mod fault;
 mod generate;
+mod quiet;
 mod rows;
 mod stream;
 mod text;

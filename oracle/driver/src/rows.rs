@@ -49,9 +49,5 @@ fn print_page(out: &mut impl Write, reader: &Reader<&[u8]>, number: u32) -> io::
 
 fn print_cell(out: &mut impl Write, page: u32, index: usize, cell: &CellView) -> io::Result<()> {
     write!(out, "{page} {index} old {}", cell.row)?;
-    for value in cell.values {
-        write!(out, " ")?;
-        values::print(out, &PLAIN, value)?;
-    }
-    writeln!(out)
+    values::print_all(out, &PLAIN, cell.values)
 }

@@ -39,7 +39,20 @@ pub const PLAIN: Marks = Marks {
     text: "t",
 };
 
-pub fn print(out: &mut impl Write, marks: &Marks, value: &Option<Payload>) -> io::Result<()> {
+/// A cell's values, with a space before each, and the end of its line.
+pub fn print_all(
+    out: &mut impl Write,
+    marks: &Marks,
+    values: &[Option<Payload>],
+) -> io::Result<()> {
+    for value in values {
+        write!(out, " ")?;
+        print(out, marks, value)?;
+    }
+    writeln!(out)
+}
+
+fn print(out: &mut impl Write, marks: &Marks, value: &Option<Payload>) -> io::Result<()> {
     match value {
         None => write!(out, "null"),
         Some(Payload::I8(n)) => write!(out, "{}:{n}", marks.i8),

@@ -1,0 +1,144 @@
+-- How a cursor goes along the types: what one step comes to, and that column k is found by k steps.
+use Prim.Native.Nat.{ℕ, zero, suc, _+_, _-_}
+use mathlib.Core.Path.{_≡_, refl, sym, ap, _∙_}
+use mathlib.Core.List.{List, [], _∷_}
+use mathlib.Core.Bool.{Bool, true, false}
+use native.Mathlib.Omega.{arith}
+use lib.Dec.{ltb, eqb}
+use lib.ListN.{take, drop}
+use lib.Seq.{drop-drop}
+use borrow.Author.Tests.{ne-eqb}
+use Rattle.laws.specs.Pick.{pick}
+use Rattle.laws.proofs.Never.{never}
+use Rattle.laws.proofs.Parts.{drop-take}
+use Rattle.varint.specs.declared.Cause.{Cause}
+use Rattle.varint.specs.declared.Varint.{Varint}
+use Rattle.varint.specs.declared.Varint.the-variants as vi
+use Rattle.varint.specs.Varint.{varintOf}
+use Rattle.reading.specs.Reading.{limit}
+use Rattle.serial.specs.declared.Width.{Width}
+use Rattle.serial.specs.declared.Width.the-variants as wi
+use Rattle.serial.specs.Serial.{widthOf}
+use Rattle.record.specs.Types.{num, Types, done, broken, column, typesOf}
+use Rattle.record.proofs.Laws.{types-nil, types-next, types-broken}
+use Rattle.columns.specs.declared.Cursor.{Cursor}
+use Rattle.columns.specs.declared.Stepped.the-variants.{Column, Done}
+use Rattle.columns.specs.declared.Slot.{Slot}
+use Rattle.columns.specs.declared.Slot.the-variants.{Found, Missing}
+use Rattle.columns.specs.Columns.{typesAt, slotIn, slotOf, behind, passed, stepIn, stepOf}
+
+module _ (c : Cursor) (db : List ℕ) where
+  -- the bytes of the types before the cursor
+  abbrev pub ahead : List ℕ
+  ahead = take (c .stop - c .at) (drop (c .at) db)
+
+  -- ONE STEP, by what is read there
+
+  pub step-ends : {cause : Cause} → varintOf (limit (c .reading)) ahead ≡ vi.Unfinished cause → stepOf c db ≡ Done
+  unfolding stepOf stepIn
+  step-ends {cause} e = go ahead e
+    where
+      go : (s : List ℕ) → varintOf (limit (c .reading)) s ≡ vi.Unfinished cause → stepIn c (typesOf (limit (c .reading)) s) ≡ Done
+      go [] d = rw (types-nil (limit (c .reading)))
+      go (b ∷ s) d = rw (types-broken (limit (c .reading)) (b ∷ s) (omega arith) d)
+
+  module _ {t n : ℕ} (e : varintOf (limit (c .reading)) ahead ≡ vi.Value t n) where
+    pub types-behind : (w : ℕ) → typesAt c db ≡ column (num t n) (typesAt (behind n w c) db)
+    types-behind w =
+        let d : c .stop - c .at - n ≡ c .stop - (c .at + n) = omega arith in
+        rw (drop-take, d, drop-drop) at (types-next (limit (c .reading)) ahead e)
+
+    pub step-reserved : widthOf t ≡ wi.Reserved → stepOf c db ≡ Done
+    unfolding stepOf stepIn
+    step-reserved f = ap (stepIn c) (types-behind 0) ∙ simp (stepIn, f)
+
+    pub step-passes : {w : ℕ} → widthOf t ≡ wi.Bytes w → stepOf c db ≡ passed c t n w
+    unfolding stepOf stepIn
+    step-passes f = ap (stepIn c) (types-behind 0) ∙ simp (stepIn, f)
+
+  -- COLUMN k, by its steps
+
+  -- behind the first type are the rest of them
+  rest-is : {t n : ℕ} {rest : Types} → typesAt c db ≡ column (num t n) rest → (w : ℕ) → typesAt (behind n w c) db ≡ rest
+  rest-is {t} {n} {rest} e w = go (varintOf (limit (c .reading)) ahead) refl
+    where
+      ends : (s : List ℕ) {cause : Cause} → varintOf (limit (c .reading)) s ≡ vi.Unfinished cause → typesOf (limit (c .reading)) s ≡ column (num t n) rest → ⊥
+      ends [] d f = let g = sym (types-nil (limit (c .reading))) ∙ f in never cc
+      ends (b ∷ s) d f = let g = sym (types-broken (limit (c .reading)) (b ∷ s) (omega arith) d) ∙ f in never cc
+
+      go : (v : Varint) → varintOf (limit (c .reading)) ahead ≡ v → typesAt (behind n w c) db ≡ rest
+      go (vi.Unfinished cause) d = absurd (ends ahead d e)
+      go (vi.Value x m) d =
+          let g = sym (types-behind d w) ∙ e in
+          let i : m ≡ n = cc in
+          rw i at (let j : typesAt (behind m w c) db ≡ rest = cc in j)
+
+  -- a step that comes to a column
+  pub record Passed (ts : Types) (t at : ℕ) (next : Cursor) : Type 0 where
+    pub n : ℕ
+    pub w : ℕ
+    pub rest : Types
+    pub types : ts ≡ column (num t n) rest
+    pub width : widthOf t ≡ wi.Bytes w
+    pub room : ltb (c .end - c .value) w ≡ false
+    pub here : c .value ≡ at
+    pub on : behind n w c ≡ next
+
+  passed-is : (ts : Types) {t at : ℕ} {next : Cursor} → stepIn c ts ≡ Column t at next → Passed ts t at next
+  unfolding stepIn
+  passed-is done e = never cc
+  passed-is broken e = never cc
+  passed-is (column (num x n) rest) {t} {at} {next} e = by-width (widthOf x) refl e
+    where
+      by-room : (w : ℕ) → widthOf x ≡ wi.Bytes w → (b : Bool) → ltb (c .end - c .value) w ≡ b
+          → pick b Done (Column x (c .value) (behind n w c)) ≡ Column t at next → Passed (column (num x n) rest) t at next
+      by-room w f true g d = never cc
+      by-room w f false g d =
+          let i : x ≡ t = cc in
+          record { n = n; w = w; rest = rest; types = rw i; width = rw i at f; room = g; here = cc; on = cc }
+
+      by-width : (y : Width) → widthOf x ≡ y → elim y [ wi.Bytes w ↦ passed c x n w | wi.Reserved ↦ Done ] ≡ Column t at next
+          → Passed (column (num x n) rest) t at next
+      by-width wi.Reserved f d = never cc
+      by-width (wi.Bytes w) f d = by-room w f (ltb (c .end - c .value) w) refl d
+
+  pub slot-done : (k : ℕ) → stepOf c db ≡ Done → slotOf k c db ≡ Missing
+  unfolding stepOf stepIn slotOf slotIn
+  slot-done k e = go (typesAt c db) e
+    where
+      by-room : (w t n : ℕ) (x : Slot) (b : Bool) → pick b Done (Column t (c .value) (behind n w c)) ≡ Done → elim b [ true ↦ Missing | false ↦ x ] ≡ Missing
+      by-room w t n x true d = refl
+      by-room w t n x false d = never cc
+
+      by-width : (t n : ℕ) (x : ℕ → Slot) (y : Width) → elim y [ wi.Bytes w ↦ passed c t n w | wi.Reserved ↦ Done ] ≡ Done
+          → elim y [ wi.Bytes w ↦ elim (ltb (c .end - c .value) w) [ true ↦ Missing | false ↦ x w ] | wi.Reserved ↦ Missing ] ≡ Missing
+      by-width t n x wi.Reserved d = refl
+      by-width t n x (wi.Bytes w) d = by-room w t n (x w) (ltb (c .end - c .value) w) d
+
+      go : (ts : Types) → stepIn c ts ≡ Done → slotIn k (c .value) (c .end) ts ≡ Missing
+      go done d = refl
+      go broken d = refl
+      go (column (num t n) rest) d =
+          by-width t n (λ w. elim (eqb k 0) [ true ↦ Found t (c .value) | false ↦ slotIn (k - 1) (c .value + w) (c .end) rest ]) (widthOf t) d
+
+  module _ {t at : ℕ} {next : Cursor} (e : stepOf c db ≡ Column t at next) where
+    pub stepped : Passed (typesAt c db) t at next
+    unfolding stepOf
+    stepped = passed-is (typesAt c db) e
+
+    pub slot-here : slotOf 0 c db ≡ Found t at
+    unfolding slotOf slotIn
+    slot-here =
+        let p = stepped in
+        ap (slotIn 0 (c .value) (c .end)) (p .types) ∙ (simp (slotIn, p .width, p .room)) ∙ ap (Found t) (p .here)
+
+    pub slot-next : (k : ℕ) → slotOf (suc k) c db ≡ slotOf k next db
+    unfolding slotOf slotIn
+    slot-next k =
+        let p = stepped in
+        let i : suc k - 1 ≡ k = omega arith in
+        let g = rest-is (p .types) (p .w) in
+        let h : slotIn (suc k) (c .value) (c .end) (column (num t (p .n)) (p .rest)) ≡ slotIn k (c .value + p .w) (c .end) (p .rest) =
+        simp (slotIn, p .width, p .room, ne-eqb (suc k) 0 (omega arith), i) in
+        ap (slotIn (suc k) (c .value) (c .end)) (p .types) ∙ h
+        ∙ ap (slotIn k (c .value + p .w) (c .end)) (sym g) ∙ ap (λ (x : Cursor). slotOf k x db) (p .on)

@@ -1,0 +1,10 @@
+pub mod Values
+pub mod Pages
+pub mod Cells
+pub mod Rows
+pub mod Guard
+pub mod Columns
+pub mod Agrees
+pub mod Differ
+pub mod Each
+pub mod Stages

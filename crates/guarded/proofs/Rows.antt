@@ -1,0 +1,83 @@
+-- What a reading shows, by the cell that it locates: a row is shown of a located cell alone, and two lists of values are the
+-- same exactly where they are so one by one.
+use Prim.Native.Nat.{ℕ, zero, suc, _<_}
+use mathlib.Core.Path.{_≡_, refl, ap}
+use mathlib.Core.List.{List}
+use native.Mathlib.Omega.{arith}
+use lib.IntN.{ℤ}
+use Rattle.laws.proofs.Never.{never}
+use Rattle.cell.specs.declared.Cell as dc
+use Rattle.page.specs.declared.Open.{Open}
+use Rattle.page.specs.declared.Located.{Located}
+use Rattle.page.specs.declared.Located.the-variants as lo
+use Rattle.page.specs.Place.{oldKey, fileKey}
+use Rattle.page.specs.Entry.{rowNumber}
+use Rattle.page.specs.Located.{locatedOf}
+use Rattle.row.specs.Row.{countBy, countOf, rowBy, rowOf, cursorBy, cursorOf, columnBy, columnOf}
+use Rattle.row.specs.Old as old-calls
+use Rattle.row.specs.File as file-calls
+use Rattle.guarded.specs.Guarded as guarded-calls
+use Rattle.guarded.specs.Shows.{Meaning, oldAnswer, fileAnswer, listed, Row, row, rowFrom, oldShows, fileShows, guardedShows}
+
+-- value k of a located cell
+abbrev pub oldValue : List ℕ → Located → ℕ → Meaning
+oldValue db x k = oldAnswer db (old-calls.shownBy db (columnBy k db (cursorBy x)))
+
+abbrev pub fileValue : List ℕ → Located → ℕ → Meaning
+fileValue db x k = fileAnswer db (file-calls.shownBy db (columnBy k db (cursorBy x)))
+
+-- the row of a located cell
+abbrev pub oldRow : List ℕ → Located → Row
+oldRow db x = rowFrom (countBy x) (rowBy x) (oldValue db x)
+
+abbrev pub fileRow : List ℕ → Located → Row
+fileRow db x = rowFrom (countBy x) (rowBy x) (fileValue db x)
+
+-- the three readings
+module _ (page i : ℕ) (db : List ℕ) where
+  pub old-is : oldShows page i db ≡ oldRow db (locatedOf (oldKey page) i db)
+  unfolding oldShows countOf rowOf old-calls.shownOf columnOf cursorOf
+  old-is = refl
+
+  pub file-is : fileShows page i db ≡ fileRow db (locatedOf (fileKey page) i db)
+  unfolding fileShows countOf rowOf file-calls.shownOf columnOf cursorOf
+  file-is = refl
+
+  pub guarded-is : guardedShows page i db ≡ fileRow db (guarded-calls.locatedOf page i db)
+  unfolding guardedShows guarded-calls.countOf guarded-calls.rowOf guarded-calls.shownOf guarded-calls.cursorOf
+  guarded-is = refl
+
+-- a row that is shown
+pub record Shown (x : Located) (value : ℕ → Meaning) (number : ℤ) (values : List Meaning) : Type 0 where
+  pub o : Open
+  pub p : ℕ
+  pub c : dc.Cell
+  pub is : x ≡ lo.Shown o p c
+  pub number-is : rowNumber (c .row .value) ≡ number
+  pub values-are : listed (c .columns) value ≡ values
+
+pub shown : (x : Located) (value : ℕ → Meaning) {number : ℤ} {values : List Meaning} → rowFrom (countBy x) (rowBy x) value ≡ row number values
+    → Shown x value number values
+shown (lo.Refused refusal) value e = never cc
+shown (lo.Shown o p c) value e = record { o = o; p = p; c = c; is = refl; number-is = cc; values-are = cc }
+
+-- LISTS
+
+pub listed-same : (n : ℕ) (f g : ℕ → Meaning) → ((k : ℕ) → k < n → f k ≡ g k) → listed n f ≡ listed n g
+listed-same zero f g h = refl
+listed-same (suc n) f g h =
+    let a = h 0 (omega arith) in
+    let b = listed-same n (λ k. f (suc k)) (λ k. g (suc k)) (λ k l. h (suc k) (omega arith)) in
+    cc
+
+pub same-count : (n m : ℕ) (f g : ℕ → Meaning) → listed n f ≡ listed m g → n ≡ m
+same-count zero zero f g e = refl
+same-count zero (suc m) f g e = never cc
+same-count (suc n) zero f g e = never cc
+same-count (suc n) (suc m) f g e = ap suc (same-count n m (λ k. f (suc k)) (λ k. g (suc k)) cc)
+
+pub same-each : (n m : ℕ) (f g : ℕ → Meaning) → listed n f ≡ listed m g → (k : ℕ) → k < n → k < m → f k ≡ g k
+same-each zero m f g e k i j = absurd (omega arith)
+same-each (suc n) zero f g e k i j = absurd (omega arith)
+same-each (suc n) (suc m) f g e zero i j = cc
+same-each (suc n) (suc m) f g e (suc k) i j = same-each n m (λ j. f (suc j)) (λ j. g (suc j)) (cc) k (omega arith) (omega arith)

@@ -1,0 +1,4 @@
+pub mod Guarded
+pub mod Steps
+pub mod Shows
+pub mod Agreement

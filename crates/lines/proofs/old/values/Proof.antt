@@ -1,0 +1,67 @@
+-- The buffer keeps its length; each turn leaves a column less to come.
+use mathlib.Core.Path.{_≡_}
+use lib.ListN.{length}
+use borrow.Author.Needs.{needs}
+use Rattle.lines.proofs.old.values.Statement.{statement}
+use Rattle.lines.proofs.old.values.Tie as tie
+
+abbrev Inv-loop : tie.InvT-loop
+Inv-loop db out₀ at count n₀ here₀ left₀ out n here left = length out ≡ length out₀
+
+abbrev μ-loop : tie.MeasureT-loop
+μ-loop db out₀ at count n₀ here₀ left₀ out n here left = left
+
+loop-holds : tie.Need-loop-holds Inv-loop μ-loop
+loop-holds c = search needs
+
+next-requires : tie.Need-next-requires Inv-loop μ-loop
+next-requires c κs = search needs
+
+enum-known-reached : tie.Need-enum-known-reached Inv-loop μ-loop
+enum-known-reached c = search needs
+
+enum-told : tie.Need-enum-told Inv-loop μ-loop
+enum-told c = search needs
+
+same-length : tie.Need-same-length Inv-loop μ-loop
+same-length c = search needs
+
+returns : tie.Need-returns Inv-loop μ-loop
+returns c = tt
+
+value-requires : tie.Need-value-requires Inv-loop μ-loop
+value-requires c κs = search needs
+
+sub-left : tie.Need-sub-left Inv-loop μ-loop
+sub-left c = search needs
+
+loop-less : tie.Need-loop-less Inv-loop μ-loop
+loop-less c = search needs
+
+loop-again : tie.Need-loop-again Inv-loop μ-loop
+loop-again c = search needs
+
+same-length-2 : tie.Need-same-length-2 Inv-loop μ-loop
+same-length-2 c = search needs
+
+returns-2 : tie.Need-returns-2 Inv-loop μ-loop
+returns-2 c = tt
+
+pub values-spec : {M : Type 1} → statement M
+values-spec =
+    tie.close
+    (tie.spec
+    Inv-loop
+    μ-loop
+    loop-holds
+    next-requires
+    enum-known-reached
+    enum-told
+    same-length
+    returns
+    value-requires
+    sub-left
+    loop-less
+    loop-again
+    same-length-2
+    returns-2)

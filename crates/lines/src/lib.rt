@@ -1,0 +1,131 @@
+// The lines of the program `rows`: every cell of every table leaf page of a database, in the three readings.
+//
+// A heading, then for each cell three lines: page (from 1), cell, reading, row number and values, or `refused` and the
+// four numbers of the answer. It streams: nothing is kept of a line but a buffer of output, and a row's values are come
+// by along its cursor. docs/READINGS.md says how values are written.
+//
+// No contract can say what is read or written, so the functions here promise nothing: each is proved safe and ending.
+// What is printed is made by the functions of the readers, whose promises say all of it.
+pub mod file;
+mod old;
+
+use answers::Reason;
+use answers::Refusal;
+use cell::Kind;
+use header::ShapeAnswer;
+use libc::STDIN_FILENO;
+use page::OpenAnswer;
+use print::out::field;
+use print::out::field_u8;
+use print::out::flush;
+use print::out::number_u32;
+use print::out::text;
+use reading::Reading;
+
+// Reads a database of at most 65,536 bytes from standard input, and prints its lines.
+pub fn run() {
+    let mut buffer = io::large_buffer();
+    let mut out = io::large_buffer();
+    let n = io::read_full(STDIN_FILENO, &mut buffer);
+    let at = text(&mut out, 0, b"page cell reading rowid values\n");
+    let at = answer(&buffer, &mut out, at, n);
+    flush(&out, at);
+}
+
+// A byte more than the buffer takes is over the limit, whatever the bytes are.
+fn answer(buffer: &[u8], out: &mut [u8], at: usize, n: usize) -> usize {
+    let mut more = [0u8; 1];
+    if 0 < io::read_full(STDIN_FILENO, &mut more) {
+        return refused(out, at, Reason::OverLimit);
+    }
+    if buffer.len() < n {
+        return at;
+    }
+    database(&buffer[0..n], out, at)
+}
+
+fn refused(out: &mut [u8], at: usize, reason: Reason) -> usize {
+    let numbers = answers::numbers_of(Refusal::Plain(reason));
+    let n = text(out, at, b"refused");
+    let n = field_u8(out, n, numbers.number);
+    text(out, n, b"\n")
+}
+
+fn database(db: &[u8], out: &mut [u8], at: usize) -> usize {
+    let shaped = header::shape_of(db, Reading::File);
+    match shaped {
+        ShapeAnswer::Refused(reason) => refused(out, at, reason),
+        ShapeAnswer::Shown(shape) => pages(db, out, at, whole_pages(db.len(), shape.page_size)),
+    }
+}
+
+fn whole_pages(bytes: usize, size: u32) -> usize {
+    if size == 0 {
+        return 0;
+    }
+    bytes / (size as usize)
+}
+
+fn pages(db: &[u8], out: &mut [u8], at: usize, last: usize) -> usize {
+    let mut n = at;
+    let mut number: u32 = 1;
+    while number < u32::MAX && number as usize <= last {
+        n = leaf(db, out, n, number);
+        number += 1;
+    }
+    n
+}
+
+// Pages of another kind are passed by, and those whose pointers do not end in time.
+fn leaf(db: &[u8], out: &mut [u8], at: usize, number: u32) -> usize {
+    let opened = page::open_page(db, page::file(number));
+    match opened {
+        OpenAnswer::Refused(_) => at,
+        OpenAnswer::Shown(page) => {
+            let kind = page.kind;
+            match kind {
+                Kind::LeafTable => cells(db, out, at, number, page.cells),
+                Kind::LeafIndex => at,
+                Kind::InteriorTable => at,
+                Kind::InteriorIndex => at,
+            }
+        }
+    }
+}
+
+fn cells(db: &[u8], out: &mut [u8], at: usize, number: u32, count: usize) -> usize {
+    let mut n = at;
+    for i in 0..count {
+        n = old_line(db, out, n, number, i);
+        n = file_line(db, out, n, number, i);
+        n = guarded_line(db, out, n, number, i);
+    }
+    n
+}
+
+// The old reading counts pages from 0.
+fn old_line(db: &[u8], out: &mut [u8], at: usize, number: u32, i: usize) -> usize {
+    let n = start(out, at, number, i, b" old");
+    old::row(db, out, n, row::found(db, page::old(before(number)), i))
+}
+
+fn file_line(db: &[u8], out: &mut [u8], at: usize, number: u32, i: usize) -> usize {
+    let n = start(out, at, number, i, b" file");
+    file::row(db, out, n, row::found(db, page::file(number), i))
+}
+
+fn guarded_line(db: &[u8], out: &mut [u8], at: usize, number: u32, i: usize) -> usize {
+    let n = start(out, at, number, i, b" guarded");
+    file::row(db, out, n, guarded::found(db, number, i))
+}
+
+fn before(number: u32) -> u32 {
+    if number == 0 { 0 } else { number - 1 }
+}
+
+// Page, cell and reading.
+fn start(out: &mut [u8], at: usize, number: u32, i: usize, reading: &[u8]) -> usize {
+    let n = number_u32(out, at, number);
+    let n = field(out, n, i as u64);
+    text(out, n, reading)
+}

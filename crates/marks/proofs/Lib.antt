@@ -1,0 +1,4 @@
+pub mod Some
+pub mod Behind
+pub mod Same
+pub mod Differ

@@ -1,0 +1,34 @@
+-- The cursor is the found cell's.
+use mathlib.Core.Path.{sym, _∙_}
+use denote.Ref.{now}
+use Rattle.page.specs.Located.{locatedOf}
+use Rattle.row.specs.Row.{foundOf, cursorOf}
+use Rattle.row.proofs.Told.{told-refused, told-shown}
+use borrow.Author.Needs.{needs}
+use Rattle.row.proofs.cursor.Statement.{statement}
+use Rattle.row.proofs.cursor.Tie as tie
+
+found-requires : tie.Need-found-requires
+found-requires c κs = search needs
+
+enum-known-answer : tie.Need-enum-known-answer
+enum-known-answer c = search needs
+
+enum-known-answer-2 : tie.Need-enum-known-answer-2
+enum-known-answer-2 c = search needs
+
+returns : tie.Need-returns
+unfolding foundOf cursorOf
+returns c =
+    let a = c .before .before .before .before .before .args in
+    sym (told-refused (locatedOf (a .key) (a .i) (now (a .db))) (sym (c .before .before .before .found .ensures) ∙ c .before .answer .given .1) .2)
+
+returns-2 : tie.Need-returns-2
+unfolding foundOf cursorOf
+returns-2 c =
+    let a = c .before .before .before .before .before .args in
+    sym (told-shown (locatedOf (a .key) (a .i) (now (a .db))) (sym (c .before .before .before .found .ensures) ∙ c .before .answer2 .given .1) .2)
+
+pub cursor-spec : {M : Type 1} → statement M
+cursor-spec =
+    tie.close (tie.spec found-requires enum-known-answer enum-known-answer-2 returns returns-2)

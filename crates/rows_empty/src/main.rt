@@ -1,0 +1,4 @@
+// `rows` on no bytes at all.
+fn main() {
+    lines::run();
+}

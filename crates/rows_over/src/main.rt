@@ -1,0 +1,4 @@
+// `rows` on one byte more than it takes.
+fn main() {
+    lines::run();
+}

@@ -1,0 +1,4 @@
+// `rows` on a header that the file reading refuses.
+fn main() {
+    lines::run();
+}

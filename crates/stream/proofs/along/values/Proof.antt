@@ -1,0 +1,75 @@
+-- The buffer keeps its length; each turn leaves a column less to come.
+use mathlib.Core.Path.{_≡_}
+use lib.ListN.{length}
+use borrow.Author.Needs.{needs}
+use Rattle.stream.proofs.along.values.Statement.{statement}
+use Rattle.stream.proofs.along.values.Tie as tie
+
+abbrev Inv-loop : tie.InvT-loop
+Inv-loop db out₀ at count n₀ here₀ left₀ t12 out n here left = length out ≡ length out₀
+
+abbrev μ-loop : tie.MeasureT-loop
+μ-loop db out₀ at count n₀ here₀ left₀ t12 out n here left = left
+
+loop-holds : tie.Need-loop-holds Inv-loop μ-loop
+loop-holds c = search needs
+
+one-requires : tie.Need-one-requires Inv-loop μ-loop
+one-requires c κs = search needs
+
+enum-known-went : tie.Need-enum-known-went Inv-loop μ-loop
+enum-known-went c = search needs
+
+enum-told : tie.Need-enum-told Inv-loop μ-loop
+enum-told c = search needs
+
+slice-aggregate-text : tie.Need-slice-aggregate-text Inv-loop μ-loop
+slice-aggregate-text c = search needs
+
+text-requires : tie.Need-text-requires Inv-loop μ-loop
+text-requires c κs = search needs
+
+same-length : tie.Need-same-length Inv-loop μ-loop
+same-length c = search needs
+
+returns : tie.Need-returns Inv-loop μ-loop
+returns c = tt
+
+sub-left : tie.Need-sub-left Inv-loop μ-loop
+sub-left c = search needs
+
+loop-less : tie.Need-loop-less Inv-loop μ-loop
+loop-less c = search needs
+
+loop-again : tie.Need-loop-again Inv-loop μ-loop
+loop-again c = search needs
+
+last-requires : tie.Need-last-requires Inv-loop μ-loop
+last-requires c κs = search needs
+
+same-length-2 : tie.Need-same-length-2 Inv-loop μ-loop
+same-length-2 c = search needs
+
+returns-2 : tie.Need-returns-2 Inv-loop μ-loop
+returns-2 c = tt
+
+pub values-spec : {M : Type 1} → statement M
+values-spec =
+    tie.close
+    (tie.spec
+    Inv-loop
+    μ-loop
+    loop-holds
+    one-requires
+    enum-known-went
+    enum-told
+    slice-aggregate-text
+    text-requires
+    same-length
+    returns
+    sub-left
+    loop-less
+    loop-again
+    last-requires
+    same-length-2
+    returns-2)

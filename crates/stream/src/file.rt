@@ -1,0 +1,83 @@
+// What the file reading shows of the rows of a database: a line for each cell of each table leaf page, which has page,
+// cell, row number and values, or `refused` and the four numbers.
+use crate::pages::pages;
+use answers::Refusal;
+use cell::Kind;
+use header::ShapeAnswer;
+use page::KindAnswer;
+use page::OpenAnswer;
+use print::out::field;
+use print::out::field_u32;
+use print::out::refused;
+use print::out::text;
+use reading::Reading;
+
+pub fn database(db: &[u8], out: &mut [u8], at: usize) -> usize {
+    let answer = header::shape_of(db, Reading::File);
+    match answer {
+        ShapeAnswer::Refused(reason) => {
+            let numbers = answers::numbers_of(Refusal::Plain(reason));
+            let n = text(out, at, b"header");
+            refused(out, n, numbers)
+        }
+        ShapeAnswer::Shown(shape) => {
+            pages(
+                db,
+                out,
+                at,
+                Reading::File,
+                1,
+                last_page(db.len(), shape.page_size),
+            )
+        }
+    }
+}
+
+// How many whole pages there are.
+fn last_page(bytes: usize, size: u32) -> usize {
+    if size == 0 {
+        return 0;
+    }
+    bytes / (size as usize)
+}
+
+// Other pages than table leaves are passed by.
+pub fn page(db: &[u8], out: &mut [u8], at: usize, number: u32) -> usize {
+    let found = page::kind_in(db, page::file(number));
+    match found {
+        KindAnswer::Unknown => at,
+        KindAnswer::Known(kind) => match kind {
+            Kind::LeafTable => leaf(db, out, at, number),
+            Kind::LeafIndex => at,
+            Kind::InteriorTable => at,
+            Kind::InteriorIndex => at,
+        },
+    }
+}
+
+fn leaf(db: &[u8], out: &mut [u8], at: usize, number: u32) -> usize {
+    let answer = page::open_page(db, page::file(number));
+    match answer {
+        OpenAnswer::Refused(reason) => {
+            let n = text(out, at, b"page");
+            let n = field_u32(out, n, number);
+            refused(out, n, answers::numbers_of(Refusal::Plain(reason)))
+        }
+        OpenAnswer::Shown(opened) => cells(db, out, at, number, opened.cells),
+    }
+}
+
+fn cells(db: &[u8], out: &mut [u8], at: usize, number: u32, count: usize) -> usize {
+    let mut n = at;
+    for i in 0..count {
+        n = cell(db, out, n, number, i);
+    }
+    n
+}
+
+fn cell(db: &[u8], out: &mut [u8], at: usize, number: u32, i: usize) -> usize {
+    let n = text(out, at, b"row");
+    let n = field_u32(out, n, number);
+    let n = field(out, n, i as u64);
+    lines::file::row(db, out, n, row::found(db, page::file(number), i))
+}
