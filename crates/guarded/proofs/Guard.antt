@@ -44,7 +44,7 @@ module _ (i : ℕ) (db : List ℕ) {o : Open} {p : ℕ} {c : dc.Cell} where
           (d, rw (a, b, f) at k)
 
 -- a page that is opened is a table leaf, as the file reading opens it
-leaf-opened : (n : ℕ) (db : List ℕ) (o : Open) → openOf n db ≡ oa.Shown o → (page.openOf (fileKey n) db ≡ oa.Shown o) × (o .kind ≡ LeafTable)
+pub leaf-opened : (n : ℕ) (db : List ℕ) (o : Open) → openOf n db ≡ oa.Shown o → (page.openOf (fileKey n) db ≡ oa.Shown o) × (o .kind ≡ LeafTable)
 unfolding openOf
 leaf-opened n db o e = go (kindIn (fileKey n) db) refl e
   where

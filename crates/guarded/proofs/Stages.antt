@@ -1,16 +1,15 @@
--- The guarded reading as the code comes to it: what the file reading's cell is turned into.
+-- The guarded reading as the code comes to it: the page by its kind, and a cell by its mark.
 use Prim.Native.Nat.{ℕ, _-_, _≤_}
-use mathlib.Core.Path.{_≡_, refl, sym, ap, subst, _∙_}
+use mathlib.Core.Path.{_≡_, refl, ap, subst, _∙_}
 use mathlib.Core.List.{List}
 use mathlib.Core.Bool.{true, false}
 use native.Mathlib.Omega.{arith}
 use lib.ListN.{length, take, drop}
 use Rattle.laws.proofs.Never.{never}
+use Rattle.answers.specs.declared.Reason.{Reason}
 use Rattle.answers.specs.declared.Reason.the-variants as re
 use Rattle.answers.specs.declared.Refusal.{Refusal}
 use Rattle.answers.specs.declared.Refusal.the-variants.{Plain}
-use Rattle.reading.specs.declared.Reading.{Reading}
-use Rattle.reading.specs.declared.Reading.the-variants.{File as file}
 use Rattle.reading.specs.Reading.{limit}
 use Rattle.record.specs.Types.{typesOf}
 use Rattle.cell.specs.declared.Kind.{Kind}
@@ -20,110 +19,111 @@ use Rattle.columns.specs.declared.Cursor.{Cursor}
 use Rattle.page.specs.declared.KindAnswer.{KindAnswer}
 use Rattle.page.specs.declared.KindAnswer.the-variants.{Known, Unknown}
 use Rattle.page.specs.declared.Open.{Open}
+use Rattle.page.specs.declared.OpenAnswer.the-variants as oa
 use Rattle.page.specs.declared.Located.{Located}
 use Rattle.page.specs.declared.Located.the-variants as lo
 use Rattle.page.specs.Place.{fileKey}
 use Rattle.page.specs.Open as page
 use Rattle.page.specs.Open.{kindIn}
 use Rattle.page.specs.Located as page-located
-use Rattle.page.specs.Located.{openedThen}
-use Rattle.page.proofs.Found.{found}
+use Rattle.page.specs.Located.{openedThen, againOf}
 use Rattle.page.proofs.Named.{open-kind}
+use Rattle.page.proofs.Again.{cells-again}
 use Rattle.marks.specs.declared.Marking.{Marking}
 use Rattle.marks.specs.declared.Marking.the-variants.{Clear, By}
 use Rattle.marks.specs.Marks.{lowest}
 use Rattle.row.specs.declared.FoundAnswer.the-variants as fo
-use Rattle.row.specs.Row.{cursorIn, foundBy, foundOf}
-use Rattle.row.proofs.Placed.{placed}
+use Rattle.row.specs.Row as row
+use Rattle.row.specs.Row.{cursorIn, foundBy}
+use Rattle.row.proofs.Placed.{placed-again}
 use Rattle.guarded.specs.Guarded.{leafOnly, openOf, markIn, unmarked, guardedBy, locatedOf}
-use Rattle.guarded.specs.Steps.{otherKind, refusedBy, markedBy}
-use Rattle.guarded.proofs.Pages.{old-opens}
+use Rattle.guarded.specs.Steps.{otherKind, refusedBy, markedBy, foundIn}
+use Rattle.guarded.proofs.Guard.{leaf-opened}
 
--- a found cell is a located one
-refused-is : (x : Located) {refusal : Refusal} → foundBy x ≡ fo.Refused refusal → x ≡ lo.Refused refusal
-refused-is (lo.Refused refusal) e = cc
-refused-is (lo.Shown o p c) e = never cc
+-- THE PAGE
 
-record Shown (x : Located) (kind : Kind) (cell : dc.Cell) (cursor : Cursor) : Type 0 where
-  o : Open
-  p : ℕ
-  is : x ≡ lo.Shown o p cell
-  of-kind : o .kind ≡ kind
-  at-cursor : cursorIn o p cell ≡ cursor
-
-shown-is : (x : Located) {kind : Kind} {cell : dc.Cell} {cursor : Cursor} → foundBy x ≡ fo.Shown kind cell cursor → Shown x kind cell cursor
-shown-is (lo.Refused refusal) e = never cc
-shown-is (lo.Shown o p c) {kind} {cell} {cursor} e =
-    let f : c ≡ cell = cc in
-    let g : cursorIn o p c ≡ cursor = cc in
-    record { o = o; p = p; is = rw f; of-kind = cc; at-cursor = subst (λ (x : dc.Cell). cursorIn o p x ≡ cursor) f g }
-
--- a cell by its mark, once more as it is found
-marked : (i : ℕ) (o : Open) (p : ℕ) (c : dc.Cell) (m : Marking) → o .kind ≡ LeafTable
-    → foundBy (unmarked i o p c m) ≡ markedBy i c (cursorIn o p c) m
-marked i o p c Clear e = rw e
-marked i o p c (By mark) e = refl
-
-is-leaf : (kind : Kind) → otherKind (Known kind) ≡ false → kind ≡ LeafTable
-is-leaf InteriorIndex e = never cc
-is-leaf InteriorTable e = never cc
-is-leaf LeafIndex e = never cc
-is-leaf LeafTable e = refl
-
-module _ (n i : ℕ) (db : List ℕ) where
-  pub found-refused : {refusal : Refusal} → foundOf (fileKey n) i db ≡ fo.Refused refusal
-      → foundBy (locatedOf n i db) ≡ fo.Refused (refusedBy (kindIn (fileKey n) db) refusal)
-  unfolding foundOf locatedOf openOf page-located.locatedOf
-  found-refused {refusal} e = go (kindIn (fileKey n) db)
+module _ (n : ℕ) (db : List ℕ) where
+  pub page-refused : {reason : Reason} → page.openOf (fileKey n) db ≡ oa.Refused reason
+      → openOf n db ≡ oa.Refused (refusedBy (kindIn (fileKey n) db) reason)
+  unfolding openOf
+  page-refused {reason} e = rw e (go (kindIn (fileKey n) db))
     where
-      is : openedThen i db (page.openOf (fileKey n) db) ≡ lo.Refused refusal
-      is = refused-is (openedThen i db (page.openOf (fileKey n) db)) e
-
-      go : (k : KindAnswer) → foundBy (guardedBy i db (openedThen i db (leafOnly k (page.openOf (fileKey n) db)))) ≡ fo.Refused (refusedBy k refusal)
-      go Unknown = rw is
+      go : (k : KindAnswer) → leafOnly k (oa.Refused reason) ≡ oa.Refused (refusedBy k reason)
+      go Unknown = refl
       go (Known InteriorIndex) = refl
       go (Known InteriorTable) = refl
       go (Known LeafIndex) = refl
-      go (Known LeafTable) = rw is
+      go (Known LeafTable) = refl
 
-  module _ {kind : Kind} {cell : dc.Cell} {cursor : Cursor} (e : foundOf (fileKey n) i db ≡ fo.Shown kind cell cursor) where
-    s : Shown (page-located.locatedOf (fileKey n) i db) kind cell cursor
-    unfolding foundOf
-    s = shown-is (page-located.locatedOf (fileKey n) i db) e
-
-    kind-is : kindIn (fileKey n) db ≡ Known kind
-    kind-is = open-kind (fileKey n) db (s .o) (found (fileKey n) i db (s .is) .opened) ∙ ap Known (s .of-kind)
-
-    -- the types lie in the bytes, and are the file reading's
-    pub types-within : (cursor .at ≤ cursor .stop) × (cursor .stop ≤ length db)
-    types-within =
-        let l = placed (fileKey n) i db (s .is) .lying in
-        subst (λ (x : Cursor). (x .at ≤ x .stop) × (x .stop ≤ length db)) (s .at-cursor) (omega arith, omega (arith, l .1, l .2))
-
-    reading-is : cursor .reading ≡ file
-    reading-is =
-        subst (λ (x : Cursor). x .reading ≡ file) (s .at-cursor)
-        (old-opens n db (s .o) (found (fileKey n) i db (s .is) .opened) .1)
-
-    pub other-refused : otherKind (Known kind) ≡ true → foundBy (locatedOf n i db) ≡ fo.Refused (Plain re.KindUnfit)
-    unfolding locatedOf openOf
-    other-refused t = rw kind-is (go kind t)
+  module _ (o : Open) (e : page.openOf (fileKey n) db ≡ oa.Shown o) where
+    pub page-other : otherKind (Known (o .kind)) ≡ true → openOf n db ≡ oa.Refused re.KindUnfit
+    unfolding openOf
+    page-other t = rw (open-kind (fileKey n) db o e) (go (o .kind) t)
       where
-        go : (k : Kind) → otherKind (Known k) ≡ true
-            → foundBy (guardedBy i db (openedThen i db (leafOnly (Known k) (page.openOf (fileKey n) db)))) ≡ fo.Refused (Plain re.KindUnfit)
+        go : (k : Kind) → otherKind (Known k) ≡ true → leafOnly (Known k) (page.openOf (fileKey n) db) ≡ oa.Refused re.KindUnfit
         go InteriorIndex d = refl
         go InteriorTable d = refl
         go LeafIndex d = refl
         go LeafTable d = never cc
 
-    pub leaf-marked : otherKind (Known kind) ≡ false → foundBy (locatedOf n i db)
-        ≡ markedBy i cell cursor (lowest (cell .size .length) (cell .row .length) (cell .header .length) (typesOf 9 (take (cursor .stop - cursor .at) (drop (cursor .at) db))))
-    unfolding locatedOf openOf page-located.locatedOf
-    leaf-marked t =
-        let l = is-leaf kind t in
-        let k : kindIn (fileKey n) db ≡ Known LeafTable = kind-is ∙ ap Known l in
-        let m = lowest (cell .size .length) (cell .row .length) (cell .header .length) in
-        rw (k, s .is)
-        (marked i (s .o) (s .p) cell (markIn (s .o) (s .p) cell db) (s .of-kind ∙ l)
-        ∙ ap (λ (x : Cursor). markedBy i cell x (m (typesOf (limit (x .reading)) (take (x .stop - x .at) (drop (x .at) db))))) (s .at-cursor)
-        ∙ ap (λ (r : Reading). markedBy i cell cursor (m (typesOf (limit r) (take (cursor .stop - cursor .at) (drop (cursor .at) db))))) reading-is)
+    pub page-leaf : otherKind (Known (o .kind)) ≡ false → openOf n db ≡ oa.Shown o
+    unfolding openOf
+    page-leaf t = rw (open-kind (fileKey n) db o e, e) (go (o .kind) t)
+      where
+        go : (k : Kind) → otherKind (Known k) ≡ false → leafOnly (Known k) (oa.Shown o) ≡ oa.Shown o
+        go InteriorIndex d = never cc
+        go InteriorTable d = never cc
+        go LeafIndex d = never cc
+        go LeafTable d = refl
+
+-- A CELL OF IT
+
+marked : (i : ℕ) (o : Open) (p : ℕ) (c : dc.Cell) (m : Marking) → foundBy (unmarked i o p c m) ≡ markedBy i (o .kind) c (cursorIn o p c) m
+marked i o p c Clear = refl
+marked i o p c (By mark) = refl
+
+module _ (o : Open) (i : ℕ) (db : List ℕ) where
+  pub cell-refused : {refusal : Refusal} → row.foundIn o i db ≡ fo.Refused refusal → foundIn o i db ≡ fo.Refused refusal
+  unfolding foundIn row.foundIn
+  cell-refused {refusal} e = go (againOf o i db) e
+    where
+      go : (x : Located) → foundBy x ≡ fo.Refused refusal → foundBy (guardedBy i db x) ≡ fo.Refused refusal
+      go (lo.Refused y) d = d
+      go (lo.Shown y p c) d = never cc
+
+  module _ {kind : Kind} {cell : dc.Cell} {cursor : Cursor} (e : row.foundIn o i db ≡ fo.Shown kind cell cursor) where
+    -- the types lie in the bytes
+    pub types-within : (cursor .at ≤ cursor .stop) × (cursor .stop ≤ length db)
+    unfolding row.foundIn
+    types-within = go (againOf o i db) refl e
+      where
+        go : (x : Located) → againOf o i db ≡ x → foundBy x ≡ fo.Shown kind cell cursor → (cursor .at ≤ cursor .stop) × (cursor .stop ≤ length db)
+        go (lo.Refused y) f d = never cc
+        go (lo.Shown y p c) f d =
+            let l = placed-again o i db f .lying in
+            let q : cursorIn y p c ≡ cursor = cc in
+            subst (λ (z : Cursor). (z .at ≤ z .stop) × (z .stop ≤ length db)) q (omega arith, omega (arith, l .1, l .2))
+
+    pub cell-marked : foundIn o i db
+        ≡ markedBy i kind cell cursor
+        (lowest (cell .size .length) (cell .row .length) (cell .header .length) (typesOf (limit (cursor .reading)) (take (cursor .stop - cursor .at) (drop (cursor .at) db))))
+    unfolding foundIn row.foundIn
+    cell-marked = go (againOf o i db) e
+      where
+        go : (x : Located) → foundBy x ≡ fo.Shown kind cell cursor → foundBy (guardedBy i db x)
+            ≡ markedBy i kind cell cursor
+            (lowest (cell .size .length) (cell .row .length) (cell .header .length) (typesOf (limit (cursor .reading)) (take (cursor .stop - cursor .at) (drop (cursor .at) db))))
+        go (lo.Refused y) d = never cc
+        go (lo.Shown y p c) d =
+            let q : cursorIn y p c ≡ cursor = cc in
+            let f : c ≡ cell = cc in
+            let k : y .kind ≡ kind = cc in
+            rw (← q, ← f, ← k) (marked i y p c (markIn y p c db))
+
+-- the cells of a page that was opened are those of its number
+pub found-again : (n i : ℕ) (db : List ℕ) (o : Open) → openOf n db ≡ oa.Shown o → foundIn o i db ≡ foundBy (locatedOf n i db)
+unfolding foundIn locatedOf page-located.locatedOf
+found-again n i db o e =
+    let l = leaf-opened n db o e .0 in
+    let again : againOf o i db ≡ openedThen i db (oa.Shown o) = cells-again (fileKey n) i db o l ∙ rw l in
+    rw e (ap (λ (x : Located). foundBy (guardedBy i db x)) again)

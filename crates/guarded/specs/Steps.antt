@@ -1,20 +1,26 @@
 -- The guarded reading as the code comes to it: the file reading's cell first, and then its kind and its mark.
 use Prim.Native.Nat.{ℕ}
+use mathlib.Core.List.{List}
 use mathlib.Core.Bool.{Bool, true, false}
 use Rattle.laws.specs.Pick.{pick}
+use Rattle.answers.specs.declared.Reason.{Reason}
 use Rattle.answers.specs.declared.Reason.the-variants as re
-use Rattle.answers.specs.declared.Refusal.{Refusal}
-use Rattle.answers.specs.declared.Refusal.the-variants.{Plain, InCell}
+use Rattle.answers.specs.declared.Refusal.the-variants.{InCell}
 use Rattle.answers.specs.declared.Fault.the-variants as fa
+use Rattle.cell.specs.declared.Kind.{Kind}
 use Rattle.cell.specs.declared.Kind.the-variants.{InteriorIndex, InteriorTable, LeafIndex, LeafTable}
 use Rattle.cell.specs.declared.Cell as dc
 use Rattle.columns.specs.declared.Cursor.{Cursor}
 use Rattle.page.specs.declared.KindAnswer.{KindAnswer}
 use Rattle.page.specs.declared.KindAnswer.the-variants.{Known, Unknown}
+use Rattle.page.specs.declared.Open.{Open}
+use Rattle.page.specs.Located.{againOf}
 use Rattle.marks.specs.declared.Marking.{Marking}
 use Rattle.marks.specs.declared.Marking.the-variants.{Clear, By}
 use Rattle.row.specs.declared.FoundAnswer.{FoundAnswer}
 use Rattle.row.specs.declared.FoundAnswer.the-variants as fo
+use Rattle.row.specs.Row.{foundBy}
+use Rattle.guarded.specs.Guarded.{guardedBy}
 
 -- a kind that is known, and no table leaf
 abbrev pub otherKind : KindAnswer → Bool
@@ -24,10 +30,14 @@ otherKind (Known InteriorTable) = true
 otherKind (Known LeafIndex) = true
 otherKind (Known LeafTable) = false
 
-abbrev pub refusedBy : KindAnswer → Refusal → Refusal
-refusedBy kind refusal = pick (otherKind kind) (Plain re.KindUnfit) refusal
+abbrev pub refusedBy : KindAnswer → Reason → Reason
+refusedBy kind reason = pick (otherKind kind) re.KindUnfit reason
 
--- a cell of a table leaf by its mark
-abbrev pub markedBy : ℕ → dc.Cell → Cursor → Marking → FoundAnswer
-markedBy i c cursor Clear = fo.Shown LeafTable c cursor
-markedBy i c cursor (By mark) = fo.Refused (InCell i (fa.Marked mark))
+-- a cell by its mark
+abbrev pub markedBy : ℕ → Kind → dc.Cell → Cursor → Marking → FoundAnswer
+markedBy i kind c cursor Clear = fo.Shown kind c cursor
+markedBy i kind c cursor (By mark) = fo.Refused (InCell i (fa.Marked mark))
+
+-- cell i of a page that is open already
+unfoldable pub foundIn : Open → ℕ → List ℕ → FoundAnswer
+foundIn o i db = foundBy (guardedBy i db (againOf o i db))

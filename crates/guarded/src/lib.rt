@@ -6,8 +6,8 @@
 ghost use mathlib.Core.Path.{_≡_};
 ghost use Rattle.page.specs.Open.{kindIn};
 ghost use Rattle.row.specs.Row.{foundBy};
-ghost use Rattle.guarded.specs.Guarded.{locatedOf, countOf, rowOf, cursorOf, shownOf};
-ghost use Rattle.guarded.specs.Steps.{otherKind, refusedBy, markedBy};
+ghost use Rattle.guarded.specs.Guarded.{openOf, locatedOf, countOf, rowOf, cursorOf, shownOf};
+ghost use Rattle.guarded.specs.Steps.{otherKind, refusedBy, markedBy, foundIn};
 use answers::Fault;
 use answers::Reason;
 use answers::Refusal;
@@ -16,6 +16,8 @@ use cell::Kind;
 use columns::Cursor;
 use marks::Marking;
 use page::KindAnswer;
+use page::Open;
+use page::OpenAnswer;
 use row::CountAnswer;
 use row::CursorAnswer;
 use row::FoundAnswer;
@@ -38,25 +40,39 @@ fn other_kind(answer: KindAnswer) -> bool
 }
 
 // What the file reading refuses, on a page that may be of another kind.
-fn refused_as(db: &[u8], key: usize, refusal: Refusal) -> Refusal
-    ensures { λ r. ⌜ r ≡ refusedBy (kindIn key (now (db .entry))) refusal ⌝ }
+fn refused_as(db: &[u8], key: usize, reason: Reason) -> Reason
+    ensures { λ r. ⌜ r ≡ refusedBy (kindIn key (now (db .entry))) reason ⌝ }
 {
     if other_kind(page::kind_in(db, key)) {
-        return Refusal::Plain(Reason::KindUnfit);
+        return Reason::KindUnfit;
     }
-    refusal
+    reason
 }
 
-// A cell of a table leaf, unless it is marked.
-fn unmarked(i: usize, cell: Cell, cursor: Cursor, marking: Marking) -> FoundAnswer
-    ensures { λ r. ⌜ r ≡ markedBy i cell cursor marking ⌝ }
+// The table leaf of that number.
+pub fn open_page(db: &[u8], number: u32) -> OpenAnswer
+    ensures { λ r. ⌜ r ≡ openOf number (now (db .entry)) ⌝ }
+{
+    let key = page::file(number);
+    let answer = page::open_page(db, key);
+    match answer {
+        OpenAnswer::Refused(reason) => OpenAnswer::Refused(refused_as(db, key, reason)),
+        OpenAnswer::Shown(opened) => {
+            let kind = opened.kind;
+            if other_kind(KindAnswer::Known(kind)) {
+                return OpenAnswer::Refused(Reason::KindUnfit);
+            }
+            OpenAnswer::Shown(opened)
+        }
+    }
+}
+
+// A cell, unless it is marked.
+fn unmarked(i: usize, kind: Kind, cell: Cell, cursor: Cursor, marking: Marking) -> FoundAnswer
+    ensures { λ r. ⌜ r ≡ markedBy i kind cell cursor marking ⌝ }
 {
     match marking {
-        Marking::Clear => FoundAnswer::Shown {
-            kind: Kind::LeafTable,
-            cell,
-            cursor,
-        },
+        Marking::Clear => FoundAnswer::Shown { kind, cell, cursor },
         Marking::By(mark) => FoundAnswer::Refused(Refusal::InCell {
             cell: i,
             fault: Fault::Marked(mark),
@@ -64,26 +80,37 @@ fn unmarked(i: usize, cell: Cell, cursor: Cursor, marking: Marking) -> FoundAnsw
     }
 }
 
+// Cell `i` of a page that `open_page` opened, if its record has no mark: what `found` answers, with no check of header and
+// page made again.
+pub fn found_in(db: &[u8], opened: Open, i: usize) -> FoundAnswer
+    ensures { λ r. ⌜ r ≡ foundIn opened i (now (db .entry)) ⌝ }
+{
+    let answer = row::found_in(db, opened, i);
+    match answer {
+        FoundAnswer::Refused(refusal) => FoundAnswer::Refused(refusal),
+        FoundAnswer::Shown { kind, cell, cursor } => {
+            let start = cursor.at;
+            let stop = cursor.stop;
+            let reading = cursor.reading;
+            let limit = reading::limit_of(reading);
+            let size = cell.size;
+            let row = cell.row;
+            let header = cell.header;
+            let types = &db[start..stop];
+            let marking = marks::mark_of(types, limit, size.length, row.length, header.length);
+            unmarked(i, kind, cell, cursor, marking)
+        }
+    }
+}
+
 // Cell `i` of the table leaf of that number, if its record has no mark.
 pub fn found(db: &[u8], number: u32, i: usize) -> FoundAnswer
     ensures { λ r. ⌜ r ≡ foundBy (locatedOf number i (now (db .entry))) ⌝ }
 {
-    let key = page::file(number);
-    let answer = row::found(db, key, i);
+    let answer = open_page(db, number);
     match answer {
-        FoundAnswer::Refused(refusal) => FoundAnswer::Refused(refused_as(db, key, refusal)),
-        FoundAnswer::Shown { kind, cell, cursor } => {
-            if other_kind(KindAnswer::Known(kind)) {
-                return FoundAnswer::Refused(Refusal::Plain(Reason::KindUnfit));
-            }
-            let start = cursor.at;
-            let stop = cursor.stop;
-            let size = cell.size;
-            let row = cell.row;
-            let header = cell.header;
-            let marking = marks::mark_of(&db[start..stop], size.length, row.length, header.length);
-            unmarked(i, cell, cursor, marking)
-        }
+        OpenAnswer::Refused(reason) => FoundAnswer::Refused(Refusal::Plain(reason)),
+        OpenAnswer::Shown(opened) => found_in(db, opened, i),
     }
 }
 

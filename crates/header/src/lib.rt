@@ -16,6 +16,8 @@ const LIMIT: usize = 1_073_741_824;
 
 const OPENING: [u8; 16] = *b"SQLite format 3\0";
 
+// A caller in C has it as it is.
+#[repr(C)]
 pub struct Header {
     // By its meaning: 65,536 where the field has 1.
     pub page_size: u32,

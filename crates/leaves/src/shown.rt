@@ -1,13 +1,13 @@
 // How a varint and a value are written.
 use print::bits;
 use print::hex;
-use print::narrow::from_i8;
-use print::narrow::from_i16;
-use print::narrow::from_i32;
 use print::number;
 use print::signed;
 use print::text;
 use values::file;
+use values::narrow::from_i8;
+use values::narrow::from_i16;
+use values::narrow::from_i32;
 use values::old;
 use values::part::part;
 use varint::Varint;

@@ -1,8 +1,5 @@
 // What the old reading shows of a cell: its integers have the Rust's widths, which are not printed.
 use columns::Cursor;
-use print::narrow::from_i8;
-use print::narrow::from_i16;
-use print::narrow::from_i32;
 use print::out::field_i64;
 use print::out::integer;
 use print::out::long;
@@ -11,6 +8,9 @@ use print::out::refused;
 use print::out::text;
 use row::FoundAnswer;
 use row::old::NextAnswer;
+use values::narrow::from_i8;
+use values::narrow::from_i16;
+use values::narrow::from_i32;
 use values::old::Value;
 use values::part::part;
 

@@ -6,7 +6,6 @@ ghost use mathlib.Core.Path.{_≡_};
 ghost use Rattle.record.specs.Types.{typesOf};
 ghost use Rattle.marks.specs.Marks.{lowestBy, lowest};
 use answers::Mark;
-use varint::FILE_LIMIT;
 use varint::Varint;
 
 pub enum Marking {
@@ -15,17 +14,17 @@ pub enum Marking {
     By(Mark),
 }
 
-// The lowest mark of a record whose types are `types`, and whose payload size, row number and header size took so many
-// bytes.
-pub fn mark_of(types: &[u8], size: usize, row: usize, header: usize) -> Marking
-    ensures { λ r. ⌜ r ≡ lowest size row header (typesOf 9 (now (types .entry))) ⌝ }
+// The lowest mark of a record whose types are `types`, read in at most `limit` bytes each, and whose payload size, row
+// number and header size took so many bytes.
+pub fn mark_of(types: &[u8], limit: usize, size: usize, row: usize, header: usize) -> Marking
+    ensures { λ r. ⌜ r ≡ lowest size row header (typesOf limit (now (types .entry))) ⌝ }
 {
     let mut at: usize = 0;
     let mut long = 5 < size || 5 < row || 5 < header;
     let mut one = false;
     let mut empty = false;
     while at < types.len() {
-        let v = varint::read(&types[at..], FILE_LIMIT);
+        let v = varint::read(&types[at..], limit);
         let Varint::Value { value, length } = v else {
             return lowest_of(long, header, one, empty);
         };

@@ -3,3 +3,4 @@ pub mod Cells
 pub mod Opened
 pub mod Found
 pub mod Named
+pub mod Again

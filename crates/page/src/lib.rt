@@ -8,7 +8,7 @@ ghost use lib.ListN.{length};
 ghost use Rattle.page.specs.Place.{oldKey, fileKey, readingIn, headerAt, placeFrom, oldPlace, filePlace, placeOf, Lies};
 ghost use Rattle.page.specs.Open.{kindOf, kindAt, headSize, cellsAt, pointersEnd, opened, placedBy, openOf, kindPlaced, kindIn, Fitting};
 ghost use Rattle.page.specs.Entry.{pointerAt, outside, entryFrom, cellBy, entryIn};
-ghost use Rattle.page.specs.Located.{locatedIn, locatedOf};
+ghost use Rattle.page.specs.Located.{locatedIn, locatedOf, liesIn, againOf};
 ghost use Rattle.page.specs.Page.{contentStart, rightmostOf, headOf, soundFrom, pageIn, pageOf, none, entryOr, entryAt, written};
 use answers::Fault;
 use answers::Reason;
@@ -276,6 +276,8 @@ pub fn kind_in(db: &[u8], key: usize) -> KindAnswer
 
 // ITS CELLS: pointers, parts and entries
 
+// A caller in C has it as it is.
+#[repr(C)]
 pub struct Entry {
     pub kind: u8,
     pub pointer: u32,
@@ -405,6 +407,46 @@ fn located_in(page: &[u8], opened: Open, i: usize) -> Located
     }
 }
 
+// Whether an opened page lies in so many bytes, and its pointers before its end. By differences: any numbers may be given.
+fn lies(bytes: usize, opened: Open) -> bool
+    ensures { λ r. ⌜ r ≡ liesIn bytes opened ⌝ }
+{
+    let kind = opened.kind;
+    let end = opened.end as usize;
+    if bytes < opened.size {
+        return false;
+    }
+    if bytes - opened.size < opened.at {
+        return false;
+    }
+    if opened.size < end {
+        return false;
+    }
+    if end < opened.from {
+        return false;
+    }
+    let head = head_size(kind);
+    if end - opened.from < head {
+        return false;
+    }
+    if (end - opened.from - head) / 2 < opened.cells {
+        return false;
+    }
+    true
+}
+
+// Cell `i` of a page that `open_page` opened: what `cell_at` answers, with no check of header and page made again.
+pub fn cell_in(db: &[u8], opened: Open, i: usize) -> Located
+    ensures { λ r. ⌜ r ≡ againOf opened i (now (db .entry)) ⌝ }
+{
+    if lies(db.len(), opened) {
+        let at = opened.at;
+        let behind = at + opened.size;
+        return located_in(&db[at..behind], opened, i);
+    }
+    Located::Refused(Refusal::Plain(Reason::PageAbsent))
+}
+
 // Cell `i` of the page that the key names, and no other cell.
 pub fn cell_at(db: &[u8], key: usize, i: usize) -> Located
     ensures { λ r. ⌜ r ≡ locatedOf key i (now (db .entry)) ⌝ }
@@ -412,16 +454,14 @@ pub fn cell_at(db: &[u8], key: usize, i: usize) -> Located
     let answer = open_page(db, key);
     match answer {
         OpenAnswer::Refused(reason) => Located::Refused(Refusal::Plain(reason)),
-        OpenAnswer::Shown(opened) => {
-            let at = opened.at;
-            let behind = at + opened.size;
-            located_in(&db[at..behind], opened, i)
-        }
+        OpenAnswer::Shown(opened) => cell_in(db, opened, i),
     }
 }
 
 // THE PAGE CALL: the head of a page, the check of its cells, and each entry
 
+// A caller in C has it as it is.
+#[repr(C)]
 pub struct Head {
     pub kind: u8,
     // 0: none.

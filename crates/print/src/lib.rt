@@ -3,7 +3,6 @@
 // No contract can say what is written, so those of the public functions say nothing: each is proved safe and ending,
 // whatever it is handed. What they write is made by functions whose contracts do say what they make: `magnitude` and
 // `spell` here, and the digits of `io`. A write that fails is not told, as a program has no exit status to tell it by.
-pub mod narrow;
 pub mod out;
 
 ghost use mathlib.Core.Path.{_≡_};

@@ -1,12 +1,17 @@
 -- Where the columns of a located cell stand: its cursor lies in the bytes, before it are the cell's own types, and the values
 -- fit between it and its end.
 use Prim.Native.Nat.{ℕ, _+_, _-_, _≤_}
-use mathlib.Core.Path.{_≡_, refl, sym, ap, _∙_}
+use mathlib.Core.Path.{_≡_, refl, sym, ap, subst, _∙_}
 use mathlib.Core.List.{List}
+use mathlib.Core.Bool.{Bool, true, false}
 use native.Mathlib.Omega.{arith}
 use lib.ListN.{length, take, drop, length-drop}
 use lib.Seq.{drop-drop, length-take-le}
+use Rattle.laws.specs.Pick.{pick}
+use Rattle.laws.proofs.Never.{never}
 use Rattle.laws.proofs.Parts.{part}
+use Rattle.answers.specs.declared.Reason.the-variants as re
+use Rattle.answers.specs.declared.Refusal.the-variants.{Plain}
 use Rattle.reading.specs.declared.Reading.{Reading}
 use Rattle.reading.specs.declared.Reading.the-variants.{Old as old, File as file}
 use Rattle.reading.specs.Reading.{limit}
@@ -20,13 +25,15 @@ use Rattle.cell.proofs.Inside.{Inside, inside}
 use Rattle.cell.proofs.Kept.{Kept, kept}
 use Rattle.columns.specs.Columns.{typesAt}
 use Rattle.page.specs.declared.Open.{Open}
+use Rattle.page.specs.declared.OpenAnswer.the-variants as oa
 use Rattle.page.specs.declared.Located.the-variants as lo
 use Rattle.page.specs.Place.{pageAt}
 use Rattle.page.specs.Entry.{partAt}
-use Rattle.page.specs.Located.{locatedOf}
+use Rattle.page.specs.Located.{locatedIn, locatedOf, liesIn, againOf}
 use Rattle.page.proofs.Laws.{page-length}
 use Rattle.page.proofs.Opened.{Opened, open-fits}
-use Rattle.page.proofs.Found.{Found, Held, found}
+use Rattle.page.proofs.Found.{Held, opened-found, found}
+use Rattle.page.proofs.Again.{lies-opened}
 use Rattle.row.specs.Row.{cursorIn, Lying}
 
 pub record Placed (o : Open) (p : ℕ) (c : dc.Cell) (db : List ℕ) : Type 0 where
@@ -110,3 +117,17 @@ pub placed : (key i : ℕ) (db : List ℕ) {o : Open} {p : ℕ} {c : dc.Cell} �
 placed key i db {o} {p} {c} e =
     let f = found key i db e in
     placed-in o p c db (open-fits key db o (f .opened)) (f .held)
+
+-- of a page that was open already
+pub placed-again : (o : Open) (i : ℕ) (db : List ℕ) {x : Open} {p : ℕ} {c : dc.Cell} → againOf o i db ≡ lo.Shown x p c → Placed x p c db
+unfolding againOf
+placed-again o i db {x} {p} {c} e = go (liesIn (length db) o) refl e
+  where
+    go : (b : Bool) → liesIn (length db) o ≡ b → pick b (locatedIn i o (pageAt (o .at) (o .size) db)) (lo.Refused (Plain re.PageAbsent)) ≡ lo.Shown x p c
+        → Placed x p c db
+    go false l d = never cc
+    go true l d =
+        let f = opened-found i db x p c (oa.Shown o) d in
+        let g = f .opened in
+        let q : o ≡ x = cc in
+        placed-in x p c db (subst (λ (y : Open). Opened y db) q (lies-opened o db l)) (f .held)

@@ -13,7 +13,7 @@ use Rattle.page.specs.declared.Open.{Open}
 use Rattle.page.specs.declared.Located.{Located}
 use Rattle.page.specs.declared.Located.the-variants as lo
 use Rattle.page.specs.Entry.{rowNumber}
-use Rattle.page.specs.Located.{locatedOf}
+use Rattle.page.specs.Located.{locatedOf, againOf}
 use Rattle.row.specs.declared.CountAnswer.{CountAnswer}
 use Rattle.row.specs.declared.CountAnswer.the-variants as co
 use Rattle.row.specs.declared.RowAnswer.{RowAnswer}
@@ -65,6 +65,10 @@ Lying o p c bytes =
 abbrev pub foundBy : Located → FoundAnswer
 foundBy (lo.Refused refusal) = fo.Refused refusal
 foundBy (lo.Shown o p c) = fo.Shown (o .kind) c (cursorIn o p c)
+
+-- of a page that is open already
+unfoldable pub foundIn : Open → ℕ → List ℕ → FoundAnswer
+foundIn o i db = foundBy (againOf o i db)
 
 unfoldable pub foundOf : ℕ → ℕ → List ℕ → FoundAnswer
 foundOf key i db = foundBy (locatedOf key i db)

@@ -13,7 +13,7 @@ ghost use lib.ListN.{drop};
 ghost use Rattle.laws.specs.Pick.{pick};
 ghost use Rattle.cell.specs.Kind.{interior, hasRow};
 ghost use Rattle.cell.specs.Layout.{valuesAt, valuesEnd};
-ghost use Rattle.row.specs.Row.{countOf, rowOf, payloadIn, cursorIn, Lying, foundOf, cursorOf, slotThen, columnBy, columnOf};
+ghost use Rattle.row.specs.Row.{countOf, rowOf, payloadIn, cursorIn, Lying, foundIn, foundOf, cursorOf, slotThen, columnBy, columnOf};
 use answers::Reason;
 use answers::Refusal;
 use cell::Cell;
@@ -22,6 +22,7 @@ use columns::Cursor;
 use columns::Slot;
 use page::Located;
 use page::Open;
+use page::OpenAnswer;
 use reading::Reading;
 
 pub enum CountAnswer {
@@ -162,25 +163,37 @@ fn cursor_in(bytes: usize, opened: Open, pointer: usize, cell: Cell) -> Cursor
     }
 }
 
-// Cell `i` of the page, with its page's kind and the cursor before its first column.
-pub fn found(db: &[u8], key: usize, i: usize) -> FoundAnswer
-    ensures { λ r. ⌜ r ≡ foundOf key i (now (db .entry)) ⌝ }
+// Cell `i` of a page that `page::open_page` opened, with the page's kind and the cursor before its first column. It is
+// what `found` answers, with no check of header and page made again.
+pub fn found_in(db: &[u8], opened: Open, i: usize) -> FoundAnswer
+    ensures { λ r. ⌜ r ≡ foundIn opened i (now (db .entry)) ⌝ }
 {
-    let located = page::cell_at(db, key, i);
+    let located = page::cell_in(db, opened, i);
     match located {
         Located::Refused(refusal) => FoundAnswer::Refused(refusal),
         Located::Shown {
-            opened,
+            opened: page,
             pointer,
             cell,
         } => {
-            let kind = opened.kind;
+            let kind = page.kind;
             FoundAnswer::Shown {
                 kind,
                 cell,
-                cursor: cursor_in(db.len(), opened, pointer, cell),
+                cursor: cursor_in(db.len(), page, pointer, cell),
             }
         }
+    }
+}
+
+// Cell `i` of the page that the key names.
+pub fn found(db: &[u8], key: usize, i: usize) -> FoundAnswer
+    ensures { λ r. ⌜ r ≡ foundOf key i (now (db .entry)) ⌝ }
+{
+    let answer = page::open_page(db, key);
+    match answer {
+        OpenAnswer::Refused(reason) => FoundAnswer::Refused(Refusal::Plain(reason)),
+        OpenAnswer::Shown(opened) => found_in(db, opened, i),
     }
 }
 

@@ -4,12 +4,13 @@
 // pointers is left out: the copy has other bytes there.
 use crate::along;
 use crate::old;
+use crate::telling::Telling;
+use crate::telling::refused;
 use page::Open;
 use page::OpenAnswer;
 use print::out::field;
 use print::out::field_i64;
 use print::out::field_u32;
-use print::out::refused;
 use print::out::text;
 use row::CountAnswer;
 use row::RowAnswer;
@@ -21,30 +22,45 @@ const MOST: usize = 64;
 // How many columns are asked for one by one.
 const FEW: usize = 32;
 
-pub fn cells(db: &[u8], out: &mut [u8], at: usize, number: u32) -> usize {
+pub fn cells(db: &[u8], out: &mut [u8], at: usize, telling: Telling, number: u32) -> usize {
     let answer = page::open_page(db, page::old(number));
     match answer {
         OpenAnswer::Refused(_) => at,
-        OpenAnswer::Shown(opened) => each(db, out, at, number, opened),
+        OpenAnswer::Shown(opened) => each(db, out, at, telling, number, opened),
     }
 }
 
-fn each(db: &[u8], out: &mut [u8], at: usize, number: u32, opened: Open) -> usize {
+fn each(
+    db: &[u8],
+    out: &mut [u8],
+    at: usize,
+    telling: Telling,
+    number: u32,
+    opened: Open,
+) -> usize {
     let mut n = at;
     for i in 0..MOST {
-        n = one(db, out, n, number, opened, i);
+        n = one(db, out, n, telling, number, opened, i);
     }
     n
 }
 
-fn one(db: &[u8], out: &mut [u8], at: usize, number: u32, opened: Open, i: usize) -> usize {
+fn one(
+    db: &[u8],
+    out: &mut [u8],
+    at: usize,
+    telling: Telling,
+    number: u32,
+    opened: Open,
+    i: usize,
+) -> usize {
     if opened.cells <= i {
         return at;
     }
     if pointer(db, opened, i) < pointers_end(opened.from, head(opened), opened.cells) {
         return at;
     }
-    cell(db, out, at, number, i)
+    cell(db, out, at, telling, number, i)
 }
 
 // How many bytes the head has before its pointers.
@@ -85,18 +101,18 @@ fn behind(s: &[u8], at: usize) -> &[u8] {
     &s[at..]
 }
 
-fn cell(db: &[u8], out: &mut [u8], at: usize, number: u32, i: usize) -> usize {
+fn cell(db: &[u8], out: &mut [u8], at: usize, telling: Telling, number: u32, i: usize) -> usize {
     let n = text(out, at, b"alone");
     let n = field_u32(out, n, number);
     let n = field(out, n, i as u64);
-    row(db, out, n, number, i)
+    row(db, out, n, telling, number, i)
 }
 
 // Row number, column count and values, each by its own call.
-fn row(db: &[u8], out: &mut [u8], at: usize, number: u32, i: usize) -> usize {
+fn row(db: &[u8], out: &mut [u8], at: usize, telling: Telling, number: u32, i: usize) -> usize {
     let answer = row::row_number(db, page::old(number), i);
     match answer {
-        RowAnswer::Refused(refusal) => refused(out, at, answers::numbers_of(refusal)),
+        RowAnswer::Refused(refusal) => refused(out, at, telling, answers::numbers_of(refusal)),
         RowAnswer::Shown(z) => {
             let n = field_i64(out, at, z);
             counted(db, out, n, number, i)
@@ -104,10 +120,11 @@ fn row(db: &[u8], out: &mut [u8], at: usize, number: u32, i: usize) -> usize {
     }
 }
 
+// A cell that has a row number is counted: no numbers are told.
 fn counted(db: &[u8], out: &mut [u8], at: usize, number: u32, i: usize) -> usize {
     let answer = row::count(db, page::old(number), i);
     match answer {
-        CountAnswer::Refused(refusal) => refused(out, at, answers::numbers_of(refusal)),
+        CountAnswer::Refused(_) => text(out, at, b" refused\n"),
         CountAnswer::Shown(count) => {
             let n = field(out, at, count as u64);
             columns(db, out, n, number, i, count)

@@ -2,7 +2,6 @@
 use crate::old;
 use columns::Cursor;
 use columns::Stepped;
-use print::out::refused;
 use print::out::text;
 use row::CursorAnswer;
 
@@ -12,11 +11,11 @@ pub enum Went {
     Nowhere(usize),
 }
 
-// As many values as are counted, and the end of the line.
+// As many values as are counted, and the end of the line. A cell that was counted has a cursor: no numbers are told.
 pub fn row(db: &[u8], out: &mut [u8], at: usize, key: usize, i: usize, count: usize) -> usize {
     let opened = row::cursor(db, key, i);
     match opened {
-        CursorAnswer::Refused(refusal) => refused(out, at, answers::numbers_of(refusal)),
+        CursorAnswer::Refused(_) => text(out, at, b" refused\n"),
         CursorAnswer::Shown(first) => {
             let n = values(db, out, at, first, count);
             text(out, n, b"\n")

@@ -1,6 +1,7 @@
 // What the file reading shows of the rows of a database: a line for each cell of each table leaf page, which has page,
 // cell, row number and values, or `refused` and the four numbers.
 use crate::pages::pages;
+use crate::telling::Telling;
 use answers::Refusal;
 use cell::Kind;
 use header::ShapeAnswer;
@@ -26,6 +27,7 @@ pub fn database(db: &[u8], out: &mut [u8], at: usize) -> usize {
                 out,
                 at,
                 Reading::File,
+                Telling::Numbers,
                 1,
                 last_page(db.len(), shape.page_size),
             )

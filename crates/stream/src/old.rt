@@ -1,9 +1,12 @@
-// What the old reading shows of a database, in the form that the oracle prints: oracle/README.md. A refusal is shown by
-// our own numbers. Each function is lent the buffer, told how many bytes wait in it, and answers how many wait then.
+// What the old reading shows of a database, in the form that the oracle prints: oracle/README.md. Each function is lent
+// the buffer, told how many bytes wait in it, and answers how many wait then.
 use crate::alone;
 use crate::along::Went;
 use crate::along::row;
 use crate::pages::pages;
+use crate::telling::Telling;
+use crate::telling::header_refused;
+use crate::telling::refused;
 use answers::Refusal;
 use columns::Cursor;
 use header::Header;
@@ -11,9 +14,6 @@ use header::HeaderAnswer;
 use page::Entry;
 use page::Head;
 use page::PageAnswer;
-use print::narrow::from_i8;
-use print::narrow::from_i16;
-use print::narrow::from_i32;
 use print::out::field;
 use print::out::field_i64;
 use print::out::field_u8;
@@ -21,24 +21,24 @@ use print::out::field_u32;
 use print::out::integer;
 use print::out::long;
 use print::out::real;
-use print::out::refused;
 use print::out::text;
 use reading::Reading;
 use row::old::NextAnswer;
+use values::narrow::from_i8;
+use values::narrow::from_i16;
+use values::narrow::from_i32;
 use values::old::Value;
 use values::part::part;
 
 // More cells than any page has: no table is lent here, and none is too short.
 const ROOM: usize = 65_536;
 
-pub fn database(db: &[u8], out: &mut [u8], at: usize) -> usize {
+pub fn database(db: &[u8], out: &mut [u8], at: usize, telling: Telling) -> usize {
     let answer = header::header_of(db, Reading::Old);
     match answer {
         HeaderAnswer::Refused(reason) => {
             let numbers = answers::numbers_of(Refusal::Plain(reason));
-            let n = text(out, at, b"header refused");
-            let n = field_u8(out, n, numbers.number);
-            text(out, n, b"\n")
+            header_refused(out, at, telling, numbers.number)
         }
         HeaderAnswer::Shown(header) => {
             let n = versions(out, at, header);
@@ -49,6 +49,7 @@ pub fn database(db: &[u8], out: &mut [u8], at: usize) -> usize {
                 out,
                 n,
                 Reading::Old,
+                telling,
                 0,
                 last_page(db.len(), header.page_size),
             )
@@ -96,15 +97,15 @@ fn last_page(bytes: usize, size: u32) -> usize {
     bytes / (size as usize)
 }
 
-pub fn page(db: &[u8], out: &mut [u8], at: usize, number: u32) -> usize {
+pub fn page(db: &[u8], out: &mut [u8], at: usize, telling: Telling, number: u32) -> usize {
     let key = page::old(number);
     let n = text(out, at, b"page");
     let n = field_u32(out, n, number);
     let answer = page::check_page(db, key, ROOM);
     match answer {
         PageAnswer::Refused(refusal) => {
-            let n = refused(out, n, answers::numbers_of(refusal));
-            alone::cells(db, out, n, number)
+            let n = refused(out, n, telling, answers::numbers_of(refusal));
+            alone::cells(db, out, n, telling, number)
         }
         PageAnswer::Shown(head) => {
             let n = shown(out, n, head);

@@ -10,21 +10,57 @@ use crate::ask::ask;
 use crate::cells::{view, CellView, PageView};
 use crate::values::{self, VARIANTS};
 
+/// All pages of a database.
 pub fn print(out: &mut impl Write, index: usize, bytes: &[u8]) -> io::Result<()> {
-    writeln!(out, "db {index} {}", bytes.len())?;
-    match ask(|| Reader::from_source(bytes)) {
-        Err(refusal) => writeln!(out, "header refused {refusal}"),
-        Ok(reader) => {
-            print_header(out, &reader.header)?;
-            let size = reader.header.page_size.real_size();
-            for number in 0..=last_page(bytes.len(), size) {
-                if !print_page(out, &reader, number)? {
-                    alone::print(out, bytes, size, number)?;
-                }
-            }
-            Ok(())
+    match open(out, index, bytes)? {
+        None => Ok(()),
+        Some(reader) => {
+            let last = last_page(bytes.len(), reader.header.page_size.real_size());
+            print_pages(out, bytes, &reader, 0..=last)
         }
     }
+}
+
+/// The pages asked for, of a database that has too many to show them all.
+pub fn print_some(out: &mut impl Write, bytes: &[u8], numbers: &[u32]) -> io::Result<()> {
+    match open(out, 0, bytes)? {
+        None => Ok(()),
+        Some(reader) => print_pages(out, bytes, &reader, numbers.iter().copied()),
+    }
+}
+
+/// The lines before the pages, and the reader where the header is accepted.
+fn open<'b>(
+    out: &mut impl Write,
+    index: usize,
+    bytes: &'b [u8],
+) -> io::Result<Option<Reader<&'b [u8]>>> {
+    writeln!(out, "db {index} {}", bytes.len())?;
+    match ask(|| Reader::from_source(bytes)) {
+        Err(refusal) => {
+            writeln!(out, "header refused {refusal}")?;
+            Ok(None)
+        }
+        Ok(reader) => {
+            print_header(out, &reader.header)?;
+            Ok(Some(reader))
+        }
+    }
+}
+
+fn print_pages(
+    out: &mut impl Write,
+    bytes: &[u8],
+    reader: &Reader<&[u8]>,
+    numbers: impl Iterator<Item = u32>,
+) -> io::Result<()> {
+    let size = reader.header.page_size.real_size();
+    for number in numbers {
+        if !print_page(out, reader, number)? {
+            alone::print(out, bytes, size, number)?;
+        }
+    }
+    Ok(())
 }
 
 /// The page behind the last whole one is asked for too: its refusal belongs to

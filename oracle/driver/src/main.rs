@@ -19,9 +19,10 @@ use std::io::{self, BufReader, BufWriter, Read, Write};
 use std::process::exit;
 
 use fault::Fault;
+use memmap2::Mmap;
 
 const USAGE: &str = "answers [FILE] | cases FILE.. | encode FILE.. | names FILE.. | rows [FILE] \
-    | stream FILE.. | nth INDEX [FILE] | generate ..";
+    | pages FILE N.. | stream FILE.. | nth INDEX [FILE] | generate .. | classes ..";
 
 fn main() {
     ask::record_panics();
@@ -44,9 +45,11 @@ fn run(args: &[String], out: &mut impl Write) -> Result<(), Fault> {
         "encode" => encode(files, out),
         "names" => names(files, out),
         "rows" => print_rows(&mut open(files)?, out),
+        "pages" => print_pages(files, out),
         "stream" => put_files(files, out),
         "nth" => put_nth(files, out),
         "generate" => generate::run(files, out),
+        "classes" => generate::list(files, out),
         _ => Err(usage()),
     }
 }
@@ -133,4 +136,15 @@ fn print_rows(input: &mut dyn Read, out: &mut impl Write) -> Result<(), Fault> {
     let mut bytes = Vec::new();
     input.read_to_end(&mut bytes)?;
     Ok(rows::print(out, &bytes)?)
+}
+
+/// The pages asked for of one database, which is mapped: it may be of gigabytes.
+fn print_pages(words: &[String], out: &mut impl Write) -> Result<(), Fault> {
+    let (name, numbers) = words.split_first().ok_or_else(usage)?;
+    let numbers: Result<Vec<u32>, _> = numbers.iter().map(|n| n.parse()).collect();
+    let numbers = numbers.map_err(|_| usage())?;
+    // Safety: the map is sound as long as nobody cuts the file meanwhile.
+    let map = File::open(name).and_then(|file| unsafe { Mmap::map(&file) });
+    let map = map.map_err(|e| Fault::new(format!("{name}: {e}")))?;
+    Ok(answers::print_some(out, &map, &numbers)?)
 }

@@ -19,19 +19,19 @@ use Rattle.marks.proofs.mark_of.Statement.{statement}
 use Rattle.marks.proofs.mark_of.Tie as tie
 
 abbrev Inv-loop : tie.InvT-loop
-Inv-loop types size row header at₀ long₀ one₀ empty₀ at long one empty =
+Inv-loop types limit size row header at₀ long₀ one₀ empty₀ at long one empty =
     (at ≤ length types)
-    × ((long || some longType (typesOf 9 (drop at types))) ≡ longVarint size row header (typesOf 9 types))
-    × ((one || some storedOne (typesOf 9 (drop at types))) ≡ some storedOne (typesOf 9 types))
-    × ((empty || some emptyValue (typesOf 9 (drop at types))) ≡ some emptyValue (typesOf 9 types))
+    × ((long || some longType (typesOf limit (drop at types))) ≡ longVarint size row header (typesOf limit types))
+    × ((one || some storedOne (typesOf limit (drop at types))) ≡ some storedOne (typesOf limit types))
+    × ((empty || some emptyValue (typesOf limit (drop at types))) ≡ some emptyValue (typesOf limit types))
 
 abbrev μ-loop : tie.MeasureT-loop
-μ-loop types size row header at₀ long₀ one₀ empty₀ at long one empty = length types - at
+μ-loop types limit size row header at₀ long₀ one₀ empty₀ at long one empty = length types - at
 
 loop-holds : tie.Need-loop-holds Inv-loop μ-loop
 loop-holds c =
     let a = c .before .before .before .args in
-    let some-long = some longType (typesOf 9 (now (a .types))) in
+    let some-long = some longType (typesOf (a .limit) (now (a .types))) in
     let d = c .before .if1 in
     let i = either (long (a .size)) (long (a .row)) (d .if2) (d .came) (λ t. lt-ltb 5 (a .size) (t .taken)) (λ t. le-ltb 5 (a .size) (t .left)) in
     let j = either (d .if2) (long (a .header)) (c .if2 .long) (c .if2 .came) (λ t. t .taken) (λ t. t .left) in (
@@ -66,6 +66,9 @@ module _ (c : Read) where
   abbrev bytes : List ℕ
   bytes = now (c .before .before .before .before .before .before .before .before .before .before .args .types)
 
+  abbrev most : ℕ
+  most = c .before .before .before .before .before .before .before .before .before .before .args .limit
+
   abbrev place : ℕ
   place = c .before .before .before .before .before .before .loop .at
 
@@ -75,11 +78,11 @@ module _ (c : Read) where
   abbrev took : ℕ
   took = c .before .v .given .0 .1 .0
 
-  found : varintOf 9 (drop place bytes) ≡ vi.Value kind took
-  found = read-at 9 bytes place (c .before .before .before .read .ensures) (c .before .v .given .1)
+  found : varintOf most (drop place bytes) ≡ vi.Value kind took
+  found = read-at most bytes place (c .before .before .before .read .ensures) (c .before .v .given .1)
 
   room : (1 ≤ took) × (place + took ≤ length bytes)
-  room = room-at 9 bytes place (search needs) found
+  room = room-at most bytes place (search needs) found
 
 enum-told : tie.Need-enum-told Inv-loop μ-loop
 enum-told c = search needs
@@ -91,9 +94,9 @@ returns : tie.Need-returns Inv-loop μ-loop
 returns c =
     let a = c .before .before .before .before .before .before .before .before .before .before .args in
     let h = c .before .before .before .before .before .before .loop in
-    let e = read-at 9 (now (a .types)) (h .at) (c .before .before .before .read .ensures) (c .before .enum-told .given .1) in
-    let ends = types-break 9 (now (a .types)) (h .at) (c .before .before .before .before .before .loop-test .taken) e in
-    lowest-found (a .size) (a .row) (a .header) (typesOf 9 (now (a .types))) (typesOf 9 (drop (h .at) (now (a .types))))
+    let e = read-at (a .limit) (now (a .types)) (h .at) (c .before .before .before .read .ensures) (c .before .enum-told .given .1) in
+    let ends = types-break (a .limit) (now (a .types)) (h .at) (c .before .before .before .before .before .loop-test .taken) e in
+    lowest-found (a .size) (a .row) (a .header) (typesOf (a .limit) (now (a .types))) (typesOf (a .limit) (drop (h .at) (now (a .types))))
     (h .long) (h .one) (h .empty) (c .lowest-of .ensures) (λ f. ap (some f) ends) (h .inv .1) (h .inv .2) (h .inv .3)
 
 add-at : tie.Need-add-at Inv-loop μ-loop
@@ -106,7 +109,7 @@ loop-again : tie.Need-loop-again Inv-loop μ-loop
 loop-again c =
     let k = c .before .before .before .before in
     let h = k .before .before .before .before .before .before .loop in
-    let next = types-at 9 (bytes k) (place k) (found k) in
+    let next = types-at (most k) (bytes k) (place k) (found k) in
     let l = c .before .before .before .if3 in
     let o = c .before .before .if4 in
     let long-too = either (h .long) (long (took k)) (l .long) (l .came) (λ t. t .taken) (λ t. t .left) in
@@ -127,8 +130,8 @@ returns-2 : tie.Need-returns-2 Inv-loop μ-loop
 returns-2 c =
     let a = c .before .before .before .before .before .before .args in
     let h = c .before .before .loop in
-    let ends = types-end 9 (now (a .types)) (h .at) (c .before .loop-test .left) in
-    lowest-found (a .size) (a .row) (a .header) (typesOf 9 (now (a .types))) (typesOf 9 (drop (h .at) (now (a .types))))
+    let ends = types-end (a .limit) (now (a .types)) (h .at) (c .before .loop-test .left) in
+    lowest-found (a .size) (a .row) (a .header) (typesOf (a .limit) (now (a .types))) (typesOf (a .limit) (drop (h .at) (now (a .types))))
     (h .long) (h .one) (h .empty) (c .lowest-of2 .ensures) (λ f. ap (some f) ends) (h .inv .1) (h .inv .2) (h .inv .3)
 
 pub mark-of-spec : {M : Type 1} → statement M

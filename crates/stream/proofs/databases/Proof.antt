@@ -7,10 +7,10 @@ use Rattle.stream.proofs.databases.Statement.{statement}
 use Rattle.stream.proofs.databases.Tie as tie
 
 abbrev Inv-loop : tie.InvT-loop
-Inv-loop db₀ out₀ reading at₀ index₀ db out at index = (length db ≡ length db₀) × (length out ≡ length out₀)
+Inv-loop db₀ out₀ reading telling at₀ index₀ db out at index = (length db ≡ length db₀) × (length out ≡ length out₀)
 
 abbrev μ-loop : tie.MeasureT-loop
-μ-loop db₀ out₀ reading at₀ index₀ db out at index = 18446744073709551615 - index
+μ-loop db₀ out₀ reading telling at₀ index₀ db out at index = 18446744073709551615 - index
 
 loop-holds : tie.Need-loop-holds Inv-loop μ-loop
 loop-holds c = search needs

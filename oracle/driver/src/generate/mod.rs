@@ -33,22 +33,38 @@ struct Order {
     from: u64,
     count: u64,
     kind: Kind,
+    /// Databases over so many bytes are left out.
+    most: u64,
     files: Vec<String>,
 }
 
 pub fn run(words: &[String], out: &mut impl Write) -> Result<(), Fault> {
     let order = read(words)?;
+    let mut classes = BTreeMap::new();
+    each(&order, |made| {
+        *classes.entry(made.class).or_insert(0u64) += 1;
+        stream::put(out, &made.bytes)
+    })?;
+    tell(&order, &classes);
+    Ok(())
+}
+
+/// The classes of the same databases, one a line.
+pub fn list(words: &[String], out: &mut impl Write) -> Result<(), Fault> {
+    each(&read(words)?, |made| Ok(writeln!(out, "{}", made.class)?))
+}
+
+fn each(order: &Order, mut put: impl FnMut(Made) -> Result<(), Fault>) -> Result<(), Fault> {
     let models = damaged::load(&order.files)?;
     if order.kind == Kind::Damaged && models.is_empty() {
         return Err(Fault::new("damaged databases want FILEs".to_string()));
     }
-    let mut classes = BTreeMap::new();
     for index in order.from..order.from.saturating_add(order.count) {
-        let made = make(&order, &models, index);
-        stream::put(out, &made.bytes)?;
-        *classes.entry(made.class).or_insert(0u64) += 1;
+        let made = make(order, &models, index);
+        if made.bytes.len() as u64 <= order.most {
+            put(made)?;
+        }
     }
-    tell(&order, &classes);
     Ok(())
 }
 
@@ -70,7 +86,7 @@ fn tell(order: &Order, classes: &BTreeMap<&str, u64>) {
     let counts: Vec<String> = classes.iter().map(|(k, n)| format!("{k} {n}")).collect();
     fault::tell(&format!(
         "generated {} from index {}, seed {}: {}",
-        order.count,
+        classes.values().sum::<u64>(),
         order.from,
         order.seed,
         counts.join(", ")
@@ -83,6 +99,7 @@ fn read(words: &[String]) -> Result<Order, Fault> {
         from: 0,
         count: 0,
         kind: Kind::All,
+        most: u64::MAX,
         files: Vec::new(),
     };
     let mut words = words.iter();
@@ -91,6 +108,7 @@ fn read(words: &[String]) -> Result<Order, Fault> {
             "--seed" => order.seed = number(words.next())?,
             "--from" => order.from = number(words.next())?,
             "--count" => order.count = number(words.next())?,
+            "--most" => order.most = number(words.next())?,
             "--kind" => order.kind = kind(words.next())?,
             _ if word.starts_with("--") => return Err(usage()),
             _ => order.files.push(word.clone()),
@@ -114,6 +132,7 @@ fn kind(word: Option<&String>) -> Result<Kind, Fault> {
 }
 
 fn usage() -> Fault {
-    let words = "--seed S --count N [--from I] [--kind crafted|damaged|all] [FILE..]";
+    let words =
+        "--seed S --count N [--from I] [--kind crafted|damaged|all] [--most BYTES] [FILE..]";
     Fault::new(format!("generate wants {words}"))
 }

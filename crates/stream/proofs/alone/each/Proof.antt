@@ -7,10 +7,10 @@ use Rattle.stream.proofs.alone.each.Statement.{statement}
 use Rattle.stream.proofs.alone.each.Tie as tie
 
 abbrev Inv-loop : tie.InvT-loop
-Inv-loop db out₀ at number opened n₀ i₀ out n i = length out ≡ length out₀
+Inv-loop db out₀ at telling number opened n₀ i₀ out n i = length out ≡ length out₀
 
 abbrev μ-loop : tie.MeasureT-loop
-μ-loop db out₀ at number opened n₀ i₀ out n i = 64 - i
+μ-loop db out₀ at telling number opened n₀ i₀ out n i = 64 - i
 
 loop-holds : tie.Need-loop-holds Inv-loop μ-loop
 loop-holds c = search needs

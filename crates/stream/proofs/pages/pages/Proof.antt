@@ -7,10 +7,10 @@ use Rattle.stream.proofs.pages.pages.Statement.{statement}
 use Rattle.stream.proofs.pages.pages.Tie as tie
 
 abbrev Inv-loop : tie.InvT-loop
-Inv-loop db out₀ at reading first last n₀ number₀ out n number = length out ≡ length out₀
+Inv-loop db out₀ at reading telling first last n₀ number₀ out n number = length out ≡ length out₀
 
 abbrev μ-loop : tie.MeasureT-loop
-μ-loop db out₀ at reading first last n₀ number₀ out n number = 4294967295 - number
+μ-loop db out₀ at reading telling first last n₀ number₀ out n number = 4294967295 - number
 
 loop-holds : tie.Need-loop-holds Inv-loop μ-loop
 loop-holds c = search needs

@@ -1,0 +1,55 @@
+-- What the exported calls answer: the readers' definitions, turned.
+use Prim.Native.Nat.{ℕ}
+use mathlib.Core.List.{List}
+use Rattle.header.specs.Header as header
+use Rattle.page.specs.Place.{oldKey, fileKey}
+use Rattle.page.specs.Page as page
+use Rattle.row.specs.Row.{foundBy, foundOf}
+use Rattle.row.specs.Old as old
+use Rattle.row.specs.File as file
+use Rattle.guarded.specs.Guarded as guarded
+use Rattle.exports.specs.declared.types.Along.{Along}
+use Rattle.exports.specs.declared.types.Cell.{Cell}
+use Rattle.exports.specs.declared.types.Shown.{Shown}
+use Rattle.exports.specs.declared.types.Next.{Next}
+use Rattle.exports.specs.declared.types.Header.{Header}
+use Rattle.exports.specs.declared.types.Page.{Page}
+use Rattle.exports.specs.Turns.{readingOf, keyOf, cursorOf, cellBy, headerBy, pageBy}
+use Rattle.exports.specs.Values.{oldShown, oldNext, fileShown, fileNext}
+
+-- THE DATABASE AND ITS PAGES
+
+abbrev pub headerOf : ℕ → List ℕ → Header
+headerOf reading db = headerBy (header.headerOf (readingOf reading) db)
+
+-- where a table of `room` entries is lent
+abbrev pub pageOf : ℕ → ℕ → ℕ → List ℕ → Page
+pageOf reading number room db = pageBy (page.pageOf (keyOf reading number) room db)
+
+-- ONE CELL
+
+abbrev pub oldCell : ℕ → ℕ → List ℕ → Cell
+oldCell number i db = cellBy (foundOf (oldKey number) i db)
+
+abbrev pub fileCell : ℕ → ℕ → List ℕ → Cell
+fileCell number i db = cellBy (foundOf (fileKey number) i db)
+
+abbrev pub guardedCell : ℕ → ℕ → List ℕ → Cell
+guardedCell number i db = cellBy (foundBy (guarded.locatedOf number i db))
+
+-- ITS VALUES
+
+abbrev pub oldNextOf : Along → List ℕ → Next
+oldNextOf a db = oldNext a (old.nextOf (cursorOf a) db)
+
+abbrev pub fileNextOf : Along → List ℕ → Next
+fileNextOf a db = fileNext a (file.nextOf (cursorOf a) db)
+
+abbrev pub oldShownOf : ℕ → ℕ → ℕ → List ℕ → Shown
+oldShownOf number i k db = oldShown (old.shownOf number i k db)
+
+abbrev pub fileShownOf : ℕ → ℕ → ℕ → List ℕ → Shown
+fileShownOf number i k db = fileShown (file.shownOf number i k db)
+
+abbrev pub guardedShownOf : ℕ → ℕ → ℕ → List ℕ → Shown
+guardedShownOf number i k db = fileShown (guarded.shownOf number i k db)

@@ -1,0 +1,126 @@
+// Every public call for C and Rust: a turn of types and nothing more.
+//
+// Each function calls one of a reader and hands its answer on as a struct of numbers (`types`, `turns`): C has no enums
+// that hold something, and an exported function answers no reference. Nothing is decided here. include/shorgavel.h
+// declares the calls. A slice is a pointer that is not null and a length, also where it is empty. Pages count from 0 in
+// the old reading and from 1 in the other two.
+mod turns;
+pub mod types;
+
+ghost use mathlib.Core.Path.{_≡_};
+ghost use lib.ListN.{length};
+ghost use Rattle.page.specs.Page.{entryAt, filled};
+ghost use Rattle.exports.specs.Turns.{keyOf};
+ghost use Rattle.exports.specs.Calls.{headerOf, pageOf, oldCell, fileCell, guardedCell, oldNextOf, fileNextOf, oldShownOf, fileShownOf, guardedShownOf};
+use page::Entry;
+use types::Along;
+use types::Cell;
+use types::Header;
+use types::Next;
+use types::Page;
+use types::Shown;
+
+// THE DATABASE AND ITS PAGES, by the number of the reading: 0 is old, any other number file
+
+#[no_mangle]
+pub extern "C" fn shorgavel_header(db: &[u8], reading: u8) -> Header
+    ensures { λ r. ⌜ r ≡ headerOf reading (now (db .entry)) ⌝ }
+{
+    turns::header_by(header::header_of(db, turns::reading_of(reading)))
+}
+
+// The head of a page, every cell of which is checked. No page has more cells than the room that is named here.
+#[no_mangle]
+pub extern "C" fn shorgavel_page(db: &[u8], reading: u8, number: u32) -> Page
+    ensures { λ r. ⌜ r ≡ pageOf reading number 65536 (now (db .entry)) ⌝ }
+{
+    turns::page_by(page::check_page(db, turns::key_of(reading, number), 65_536))
+}
+
+// The page call: the same, and the entries of the cells in the table that is lent. As many are written as the head counts,
+// none on a refusal; a table with less room is refused.
+#[no_mangle]
+pub extern "C" fn shorgavel_entries(
+    db: &[u8],
+    reading: u8,
+    number: u32,
+    table: &mut [Entry],
+) -> Page
+    ensures { λ r. ⌜ (r ≡ pageOf reading number (length (now (table .entry))) (now (db .entry)))
+        × (now (table .exit) ≡ filled (keyOf reading number) (now (db .entry)) (r .head .cells) (now (table .entry))) ⌝ }
+{
+    let key = turns::key_of(reading, number);
+    let answer = lent::page(db, key, table);
+    turns::page_by(answer)
+}
+
+// The entry of cell `i`; zeros where there is no such cell.
+#[no_mangle]
+pub extern "C" fn shorgavel_entry(db: &[u8], reading: u8, number: u32, i: usize) -> Entry
+    ensures { λ r. ⌜ r ≡ entryAt (keyOf reading number) (now (db .entry)) i ⌝ }
+{
+    page::entry_at(db, turns::key_of(reading, number), i)
+}
+
+// ONE CELL
+
+#[no_mangle]
+pub extern "C" fn shorgavel_old_cell(db: &[u8], number: u32, i: usize) -> Cell
+    ensures { λ r. ⌜ r ≡ oldCell number i (now (db .entry)) ⌝ }
+{
+    turns::cell_by(row::found(db, page::old(number), i))
+}
+
+#[no_mangle]
+pub extern "C" fn shorgavel_file_cell(db: &[u8], number: u32, i: usize) -> Cell
+    ensures { λ r. ⌜ r ≡ fileCell number i (now (db .entry)) ⌝ }
+{
+    turns::cell_by(row::found(db, page::file(number), i))
+}
+
+#[no_mangle]
+pub extern "C" fn shorgavel_guarded_cell(db: &[u8], number: u32, i: usize) -> Cell
+    ensures { λ r. ⌜ r ≡ guardedCell number i (now (db .entry)) ⌝ }
+{
+    turns::cell_by(guarded::found(db, number, i))
+}
+
+// THE VALUES OF A ROW, one after the other
+
+#[no_mangle]
+pub extern "C" fn shorgavel_old_next(db: &[u8], along: Along) -> Next
+    ensures { λ r. ⌜ r ≡ oldNextOf along (now (db .entry)) ⌝ }
+{
+    turns::old_next(along, row::old::next(db, turns::cursor_of(along)))
+}
+
+// A guarded row goes on with it too.
+#[no_mangle]
+pub extern "C" fn shorgavel_file_next(db: &[u8], along: Along) -> Next
+    ensures { λ r. ⌜ r ≡ fileNextOf along (now (db .entry)) ⌝ }
+{
+    turns::file_next(along, row::file::next(db, turns::cursor_of(along)))
+}
+
+// ONE VALUE: column `k` of cell `i`
+
+#[no_mangle]
+pub extern "C" fn shorgavel_old_value(db: &[u8], number: u32, i: usize, k: usize) -> Shown
+    ensures { λ r. ⌜ r ≡ oldShownOf number i k (now (db .entry)) ⌝ }
+{
+    turns::old_shown(row::old::value(db, number, i, k))
+}
+
+#[no_mangle]
+pub extern "C" fn shorgavel_file_value(db: &[u8], number: u32, i: usize, k: usize) -> Shown
+    ensures { λ r. ⌜ r ≡ fileShownOf number i k (now (db .entry)) ⌝ }
+{
+    turns::file_shown(row::file::value(db, number, i, k))
+}
+
+#[no_mangle]
+pub extern "C" fn shorgavel_guarded_value(db: &[u8], number: u32, i: usize, k: usize) -> Shown
+    ensures { λ r. ⌜ r ≡ guardedShownOf number i k (now (db .entry)) ⌝ }
+{
+    turns::file_shown(guarded::value(db, number, i, k))
+}

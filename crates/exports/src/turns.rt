@@ -1,0 +1,365 @@
+// The turns of types: from the readers' answers to structs of numbers, and from a cursor's numbers back.
+ghost use mathlib.Core.Path.{_≡_};
+ghost use Rattle.exports.specs.Turns.{accepted, refusedBy, numberOf, readingOf, keyOf, nowhere, alongOf, cursorOf, cellBy, empty, integerOf, realOf, longOf, noFields, headerBy, noHead, pageBy};
+ghost use Rattle.exports.specs.Values.{oldValue, oldShown, oldNext, fileValue, fileShown, fileNext};
+use crate::types::Along;
+use crate::types::Cell;
+use crate::types::Header;
+use crate::types::Next;
+use crate::types::Page;
+use crate::types::Refused;
+use crate::types::Shown;
+use crate::types::Value;
+use answers::Refusal;
+use columns::Cursor;
+use header::HeaderAnswer;
+use page::Head;
+use page::PageAnswer;
+use reading::Reading;
+use row::FoundAnswer;
+use values::narrow::from_i8;
+use values::narrow::from_i16;
+use values::narrow::from_i32;
+
+// REFUSALS
+
+// Nothing is refused.
+fn no_refusal() -> Refused
+    ensures { λ r. ⌜ r ≡ accepted ⌝ }
+{
+    Refused {
+        number: 0,
+        mark: 0,
+        cell: 0,
+        column: 0,
+    }
+}
+
+fn refused_by(refusal: Refusal) -> Refused
+    ensures { λ r. ⌜ r ≡ refusedBy refusal ⌝ }
+{
+    let numbers = answers::numbers_of(refusal);
+    Refused {
+        number: numbers.number,
+        mark: numbers.mark,
+        cell: numbers.cell,
+        column: numbers.column,
+    }
+}
+
+// READINGS
+
+fn number_of(reading: Reading) -> u8
+    ensures { λ r. ⌜ r ≡ numberOf reading ⌝ }
+{
+    match reading {
+        Reading::Old => 0,
+        Reading::File => 1,
+    }
+}
+
+// Every number names a reading, so that no call has to refuse one.
+pub fn reading_of(number: u8) -> Reading
+    ensures { λ r. ⌜ r ≡ readingOf number ⌝ }
+{
+    if number == 0 {
+        return Reading::Old;
+    }
+    Reading::File
+}
+
+// The key of a page by the number of its reading.
+pub fn key_of(reading: u8, number: u32) -> usize
+    ensures { λ r. ⌜ r ≡ keyOf reading number ⌝ }
+{
+    if reading == 0 {
+        return page::old(number);
+    }
+    page::file(number)
+}
+
+// CURSORS AND CELLS
+
+// The cursor of a cell that is refused.
+fn no_cursor() -> Along
+    ensures { λ r. ⌜ r ≡ nowhere ⌝ }
+{
+    Along {
+        reading: 0,
+        at: 0,
+        stop: 0,
+        value: 0,
+        end: 0,
+    }
+}
+
+fn along_of(cursor: Cursor) -> Along
+    ensures { λ r. ⌜ r ≡ alongOf cursor ⌝ }
+{
+    let reading = cursor.reading;
+    Along {
+        reading: number_of(reading),
+        at: cursor.at,
+        stop: cursor.stop,
+        value: cursor.value,
+        end: cursor.end,
+    }
+}
+
+pub fn cursor_of(along: Along) -> Cursor
+    ensures { λ r. ⌜ r ≡ cursorOf along ⌝ }
+{
+    Cursor {
+        reading: reading_of(along.reading),
+        at: along.at,
+        stop: along.stop,
+        value: along.value,
+        end: along.end,
+    }
+}
+
+pub fn cell_by(answer: FoundAnswer) -> Cell
+    ensures { λ r. ⌜ r ≡ cellBy answer ⌝ }
+{
+    match answer {
+        FoundAnswer::Refused(refusal) => Cell {
+            refused: refused_by(refusal),
+            row: 0,
+            columns: 0,
+            along: no_cursor(),
+        },
+        FoundAnswer::Shown {
+            kind: _,
+            cell,
+            cursor,
+        } => {
+            let row = cell.row;
+            Cell {
+                refused: no_refusal(),
+                row: fields::signed_of(row.value),
+                columns: cell.columns,
+                along: along_of(cursor),
+            }
+        }
+    }
+}
+
+// VALUES
+
+// Null, and what stands where no value is shown.
+fn empty_value() -> Value
+    ensures { λ r. ⌜ r ≡ empty ⌝ }
+{
+    Value {
+        kind: 0,
+        width: 0,
+        integer: 0,
+        bits: 0,
+        at: 0,
+        len: 0,
+    }
+}
+
+fn integer_of(width: u8, integer: i64) -> Value
+    ensures { λ r. ⌜ r ≡ integerOf width integer ⌝ }
+{
+    Value {
+        kind: 1,
+        width,
+        integer,
+        bits: 0,
+        at: 0,
+        len: 0,
+    }
+}
+
+fn real_of(bits: u64) -> Value
+    ensures { λ r. ⌜ r ≡ realOf bits ⌝ }
+{
+    Value {
+        kind: 2,
+        width: 0,
+        integer: 0,
+        bits,
+        at: 0,
+        len: 0,
+    }
+}
+
+// A text or a blob.
+fn long_of(kind: u8, at: usize, len: usize) -> Value
+    ensures { λ r. ⌜ r ≡ longOf kind at len ⌝ }
+{
+    Value {
+        kind,
+        width: 0,
+        integer: 0,
+        bits: 0,
+        at,
+        len,
+    }
+}
+
+fn old_value(value: values::old::Value) -> Value
+    ensures { λ r. ⌜ r ≡ oldValue value ⌝ }
+{
+    match value {
+        values::old::Value::Null => empty_value(),
+        values::old::Value::I8(z) => integer_of(8, from_i8(z)),
+        values::old::Value::I16(z) => integer_of(16, from_i16(z)),
+        values::old::Value::I32(z) => integer_of(32, from_i32(z)),
+        values::old::Value::I64(z) => integer_of(64, z),
+        values::old::Value::F64 { number: _, bits } => real_of(bits),
+        values::old::Value::Blob { at, len } => long_of(4, at, len),
+        values::old::Value::Text { at, len } => long_of(3, at, len),
+    }
+}
+
+pub fn old_shown(answer: row::old::ValueAnswer) -> Shown
+    ensures { λ r. ⌜ r ≡ oldShown answer ⌝ }
+{
+    match answer {
+        row::old::ValueAnswer::Refused(refusal) => Shown {
+            refused: refused_by(refusal),
+            value: empty_value(),
+        },
+        row::old::ValueAnswer::Shown(value) => Shown {
+            refused: no_refusal(),
+            value: old_value(value),
+        },
+    }
+}
+
+pub fn old_next(along: Along, answer: row::old::NextAnswer) -> Next
+    ensures { λ r. ⌜ r ≡ oldNext along answer ⌝ }
+{
+    match answer {
+        row::old::NextAnswer::Done => Next {
+            more: 0,
+            value: empty_value(),
+            along,
+        },
+        row::old::NextAnswer::Column { value, next } => Next {
+            more: 1,
+            value: old_value(value),
+            along: along_of(next),
+        },
+    }
+}
+
+fn file_value(value: values::file::Value) -> Value
+    ensures { λ r. ⌜ r ≡ fileValue value ⌝ }
+{
+    match value {
+        values::file::Value::Null => empty_value(),
+        values::file::Value::Integer(z) => integer_of(0, z),
+        values::file::Value::Real { number: _, bits } => real_of(bits),
+        values::file::Value::Blob { at, len } => long_of(4, at, len),
+        values::file::Value::Text { at, len } => long_of(3, at, len),
+    }
+}
+
+pub fn file_shown(answer: row::file::ValueAnswer) -> Shown
+    ensures { λ r. ⌜ r ≡ fileShown answer ⌝ }
+{
+    match answer {
+        row::file::ValueAnswer::Refused(refusal) => Shown {
+            refused: refused_by(refusal),
+            value: empty_value(),
+        },
+        row::file::ValueAnswer::Shown(value) => Shown {
+            refused: no_refusal(),
+            value: file_value(value),
+        },
+    }
+}
+
+pub fn file_next(along: Along, answer: row::file::NextAnswer) -> Next
+    ensures { λ r. ⌜ r ≡ fileNext along answer ⌝ }
+{
+    match answer {
+        row::file::NextAnswer::Done => Next {
+            more: 0,
+            value: empty_value(),
+            along,
+        },
+        row::file::NextAnswer::Column { value, next } => Next {
+            more: 1,
+            value: file_value(value),
+            along: along_of(next),
+        },
+    }
+}
+
+// HEADERS AND PAGES
+
+fn no_fields() -> header::Header
+    ensures { λ r. ⌜ r ≡ noFields ⌝ }
+{
+    header::Header {
+        page_size: 0,
+        write_version: 0,
+        read_version: 0,
+        reserved_space: 0,
+        max_payload_fraction: 0,
+        min_payload_fraction: 0,
+        leaf_payload_fraction: 0,
+        file_change_counter: 0,
+        db_size: 0,
+        first_freelist_page_no: 0,
+        total_freelist_pages: 0,
+        schema_cookie: 0,
+        schema_format_no: 0,
+        default_page_cache_size: 0,
+        no_largest_root_b_tree: 0,
+        db_text_encoding: 0,
+        user_version: 0,
+        incremental_vacuum_mode: 0,
+        application_id: 0,
+        version_valid_for_no: 0,
+        sqlite_version_number: 0,
+    }
+}
+
+pub fn header_by(answer: HeaderAnswer) -> Header
+    ensures { λ r. ⌜ r ≡ headerBy answer ⌝ }
+{
+    match answer {
+        HeaderAnswer::Refused(reason) => Header {
+            refused: refused_by(Refusal::Plain(reason)),
+            fields: no_fields(),
+        },
+        HeaderAnswer::Shown(fields) => Header {
+            refused: no_refusal(),
+            fields,
+        },
+    }
+}
+
+fn no_head() -> Head
+    ensures { λ r. ⌜ r ≡ noHead ⌝ }
+{
+    Head {
+        kind: 0,
+        first_freeblock: 0,
+        cells: 0,
+        content_start: 0,
+        fragmented: 0,
+        rightmost: 0,
+    }
+}
+
+pub fn page_by(answer: PageAnswer) -> Page
+    ensures { λ r. ⌜ r ≡ pageBy answer ⌝ }
+{
+    match answer {
+        PageAnswer::Refused(refusal) => Page {
+            refused: refused_by(refusal),
+            head: no_head(),
+        },
+        PageAnswer::Shown(head) => Page {
+            refused: no_refusal(),
+            head,
+        },
+    }
+}

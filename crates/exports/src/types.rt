@@ -1,0 +1,73 @@
+// What the calls take and answer: numbers in structs that C and Rust lay out alike. What does not apply is 0.
+use page::Head;
+
+// A refusal by its numbers; number 0: nothing is refused.
+#[repr(C)]
+pub struct Refused {
+    pub number: u8,
+    pub mark: u8,
+    pub cell: usize,
+    pub column: usize,
+}
+
+// A cursor along a row: `columns::Cursor`, its reading by number.
+#[repr(C)]
+pub struct Along {
+    // 0: old; any other number: file.
+    pub reading: u8,
+    pub at: usize,
+    pub stop: usize,
+    pub value: usize,
+    pub end: usize,
+}
+
+// A cell: its row number, its column count and the cursor before its first column.
+#[repr(C)]
+pub struct Cell {
+    pub refused: Refused,
+    pub row: i64,
+    pub columns: usize,
+    pub along: Along,
+}
+
+#[repr(C)]
+pub struct Value {
+    // 0: null, 1: an integer, 2: a real, 3: a text, 4: a blob.
+    pub kind: u8,
+    // In the old reading, the bits of an integer's type.
+    pub width: u8,
+    pub integer: i64,
+    // The bits of a real.
+    pub bits: u64,
+    // Where the bytes of a text or a blob stand, and how many there are.
+    pub at: usize,
+    pub len: usize,
+}
+
+// The value of a column, or why there is none.
+#[repr(C)]
+pub struct Shown {
+    pub refused: Refused,
+    pub value: Value,
+}
+
+// The value at a cursor and the cursor behind it. Where there is no value, `more` is 0 and the cursor as it was.
+#[repr(C)]
+pub struct Next {
+    pub more: u8,
+    pub value: Value,
+    pub along: Along,
+}
+
+#[repr(C)]
+pub struct Header {
+    pub refused: Refused,
+    pub fields: header::Header,
+}
+
+// The head of a page whose cells are all accepted.
+#[repr(C)]
+pub struct Page {
+    pub refused: Refused,
+    pub head: Head,
+}

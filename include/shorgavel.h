@@ -1,0 +1,184 @@
+/* Shorgavel for C: reads the databases of a gauge, with proof. docs/READINGS.md has the rules and the refusals' numbers.
+ *
+ * The three readings: old is what the tablets' reader shows, faults and all; file is what the file format says; guarded
+ * shows a row only where the two agree. Pages count from 0 in the old reading and from 1 in the other two.
+ *
+ * A database is a pointer and its length in bytes; the pointer is not null, also where the length is 0. No call keeps it,
+ * writes to it or allocates. Every call answers for every input, and what does not apply in an answer is 0.
+ *
+ * Link with libexports.a, for x86-64.
+ */
+#ifndef SHORGAVEL_H
+#define SHORGAVEL_H
+
+#include <stddef.h>
+#include <stdint.h>
+
+#ifdef __cplusplus
+extern "C" {
+#endif
+
+/* Why nothing is shown; number 0: nothing is refused. Number 21 has the mark for which old and file need not agree. */
+typedef struct {
+    uint8_t number;
+    uint8_t mark;
+    size_t cell;
+    size_t column;
+} shorgavel_refused;
+
+/* READINGS, where a call is told one by its number; any other number is taken for the file reading. */
+enum { SHORGAVEL_OLD = 0, SHORGAVEL_FILE = 1 };
+
+/* THE DATABASE AND ITS PAGES */
+
+/* The fields of the database header. */
+typedef struct {
+    uint32_t page_size; /* by its meaning: 65,536 where the field has 1 */
+    uint32_t write_version;
+    uint32_t read_version;
+    uint32_t reserved_space; /* 0 in the old reading, which drops it */
+    uint32_t max_payload_fraction;
+    uint32_t min_payload_fraction;
+    uint32_t leaf_payload_fraction;
+    uint32_t file_change_counter;
+    uint32_t db_size;
+    uint32_t first_freelist_page_no;
+    uint32_t total_freelist_pages;
+    uint32_t schema_cookie;
+    uint32_t schema_format_no;
+    uint32_t default_page_cache_size;
+    uint32_t no_largest_root_b_tree;
+    uint32_t db_text_encoding;
+    uint32_t user_version;
+    uint32_t incremental_vacuum_mode;
+    uint32_t application_id;
+    uint32_t version_valid_for_no;
+    uint32_t sqlite_version_number;
+} shorgavel_fields;
+
+typedef struct {
+    shorgavel_refused refused;
+    shorgavel_fields fields;
+} shorgavel_header_answer;
+
+/* The head of a page. */
+typedef struct {
+    uint8_t kind; /* the format's byte: 2, 5, 10 or 13 */
+    uint32_t first_freeblock;
+    size_t cells;
+    uint32_t content_start; /* by its meaning: 65,536 where the field has 0 */
+    uint32_t fragmented;
+    uint32_t rightmost; /* 0 on leaves */
+} shorgavel_head;
+
+typedef struct {
+    shorgavel_refused refused;
+    shorgavel_head head;
+} shorgavel_page_answer;
+
+/* What a page says of one of its cells; a kind of 0: there is no such cell, or it is refused. */
+typedef struct {
+    uint8_t kind;
+    uint32_t pointer;
+    uint32_t child;
+    uint64_t payload_size;
+    int64_t row;
+    uint64_t header_size;
+    size_t columns;
+} shorgavel_cell_entry;
+
+/* The header's fields, or the first check that fails. */
+shorgavel_header_answer shorgavel_header(const uint8_t *db, size_t length, uint8_t reading);
+
+/* The head of a page if every one of its cells is accepted, else the first refusal. */
+shorgavel_page_answer shorgavel_page(const uint8_t *db, size_t length, uint8_t reading, uint32_t page);
+
+/* The page call: the same, and in the table the entries of all cells, as many as the head counts. A table of too few places
+ * is refused (19). On a refusal the table is left as it was, and so are its places behind the last entry. The pointer is
+ * not null, also where there is no place. */
+shorgavel_page_answer shorgavel_entries(const uint8_t *db, size_t length, uint8_t reading, uint32_t page,
+                                        shorgavel_cell_entry *table, size_t places);
+
+/* The entry of a cell of a page. */
+shorgavel_cell_entry shorgavel_entry(const uint8_t *db, size_t length, uint8_t reading, uint32_t page, size_t cell);
+
+/* ONE CELL: it is checked by itself, whatever other cells are like. */
+
+/* A cursor along a row. It is handed back as it was answered, with the same database. */
+typedef struct {
+    uint8_t reading;
+    size_t at;
+    size_t stop;
+    size_t value;
+    size_t end;
+} shorgavel_along;
+
+/* A cell: its row number or key, its column count and the cursor before its first column. */
+typedef struct {
+    shorgavel_refused refused;
+    int64_t row;
+    size_t columns;
+    shorgavel_along along;
+} shorgavel_cell;
+
+/* The cell as the old reading has it. */
+shorgavel_cell shorgavel_old_cell(const uint8_t *db, size_t length, uint32_t page, size_t cell);
+
+/* The cell as the file reading has it. */
+shorgavel_cell shorgavel_file_cell(const uint8_t *db, size_t length, uint32_t page, size_t cell);
+
+/* The cell of a table leaf if old and file agree on it. */
+shorgavel_cell shorgavel_guarded_cell(const uint8_t *db, size_t length, uint32_t page, size_t cell);
+
+/* VALUES */
+
+enum {
+    SHORGAVEL_NULL = 0,
+    SHORGAVEL_INTEGER = 1,
+    SHORGAVEL_REAL = 2,
+    SHORGAVEL_TEXT = 3,
+    SHORGAVEL_BLOB = 4
+};
+
+typedef struct {
+    uint8_t kind;
+    uint8_t width;   /* in the old reading, the bits of an integer's type: 8, 16, 32 or 64 */
+    int64_t integer;
+    uint64_t bits;   /* a real's 64 bits */
+    size_t at;       /* where the bytes of a text or a blob stand in the database */
+    size_t len;      /* and how many there are */
+} shorgavel_value;
+
+/* The value at a cursor and the cursor behind it; where the row has ended, more is 0 and the cursor as it was. */
+typedef struct {
+    uint8_t more;
+    shorgavel_value value;
+    shorgavel_along along;
+} shorgavel_next;
+
+/* The value of a column, or why there is none. */
+typedef struct {
+    shorgavel_refused refused;
+    shorgavel_value value;
+} shorgavel_shown;
+
+/* The next value of a row that shorgavel_old_cell opened. */
+shorgavel_next shorgavel_old_next(const uint8_t *db, size_t length, shorgavel_along along);
+
+/* The next value of a row that shorgavel_file_cell or shorgavel_guarded_cell opened. */
+shorgavel_next shorgavel_file_next(const uint8_t *db, size_t length, shorgavel_along along);
+
+/* One column of a cell as the old reading shows it. Columns count from 0. */
+shorgavel_shown shorgavel_old_value(const uint8_t *db, size_t length, uint32_t page, size_t cell, size_t column);
+
+/* The same as the file reading has it. */
+shorgavel_shown shorgavel_file_value(const uint8_t *db, size_t length, uint32_t page, size_t cell, size_t column);
+
+/* The same if old and file agree on the cell. */
+shorgavel_shown shorgavel_guarded_value(const uint8_t *db, size_t length, uint32_t page, size_t cell, size_t column);
+
+#ifdef __cplusplus
+}
+#endif
+
+#endif

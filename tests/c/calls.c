@@ -1,0 +1,232 @@
+/* Calls every function of include/shorgavel.h on a database of one page, and checks every number that it answers.
+ *
+ * The page is a table leaf of two rows, worked by hand: cell 0 is an idle load, a type 9, which the old reading shows as 0.
+ */
+#include <stdio.h>
+#include <string.h>
+
+#include "shorgavel.h"
+
+static int failed;
+
+#define CHECK(what) check((what), #what, __LINE__)
+
+static void check(int holds, const char *what, int line) {
+    if (!holds) {
+        printf("line %d: not so: %s\n", line, what);
+        failed = 1;
+    }
+}
+
+static uint8_t db[512];
+
+static void put(size_t at, const char *bytes, size_t count) { memcpy(db + at, bytes, count); }
+
+#define PUT(at, bytes) put((at), (bytes), sizeof(bytes) - 1)
+
+static void write_database(void) {
+    PUT(0, "SQLite format 3\0");
+    PUT(16, "\x02\x00\x01\x01\x00\x40\x20\x20");
+    PUT(59, "\x01");
+    PUT(100, "\x0d\x00\x00\x00\x02\x01\xee\x00\x01\xf7\x01\xee");
+    PUT(494, "\x07\x02\x03\x08\x04\x01\x00\x00\x00");
+    PUT(503, "\x07\x01\x03\x09\x04\x01\x00\x00\x00");
+}
+
+/* WHAT IS EXPECTED, field by field: structs have padding, which no call fills */
+
+static int refused(shorgavel_refused r, int number, int mark, size_t cell, size_t column) {
+    return r.number == number && r.mark == mark && r.cell == cell && r.column == column;
+}
+
+static int accepted(shorgavel_refused r) { return refused(r, 0, 0, 0, 0); }
+
+static int value(shorgavel_value v, int kind, int width, int64_t integer, uint64_t bits, size_t at, size_t len) {
+    return v.kind == kind && v.width == width && v.integer == integer && v.bits == bits && v.at == at && v.len == len;
+}
+
+static int integer(shorgavel_value v, int width, int64_t z) { return value(v, SHORGAVEL_INTEGER, width, z, 0, 0, 0); }
+
+static int nothing(shorgavel_value v) { return value(v, SHORGAVEL_NULL, 0, 0, 0, 0, 0); }
+
+static int along(shorgavel_along a, int reading, size_t at, size_t stop, size_t v, size_t end) {
+    return a.reading == reading && a.at == at && a.stop == stop && a.value == v && a.end == end;
+}
+
+/* THE CALLS */
+
+static void header(void) {
+    shorgavel_header_answer h = shorgavel_header(db, sizeof db, SHORGAVEL_FILE);
+    CHECK(accepted(h.refused));
+    CHECK(h.fields.page_size == 512 && h.fields.write_version == 1 && h.fields.read_version == 1);
+    CHECK(h.fields.reserved_space == 0 && h.fields.max_payload_fraction == 64);
+    CHECK(h.fields.min_payload_fraction == 32 && h.fields.leaf_payload_fraction == 32);
+    CHECK(h.fields.file_change_counter == 0 && h.fields.db_size == 0 && h.fields.db_text_encoding == 1);
+    CHECK(h.fields.user_version == 0 && h.fields.sqlite_version_number == 0);
+
+    /* Each field has a place of its own: the header of a file whose bytes from 24 on count upwards. */
+    uint8_t counting[512];
+    memcpy(counting, db, sizeof db);
+    for (size_t i = 24; i < 100; i++) counting[i] = (uint8_t)i;
+    counting[20] = 8;
+    counting[56] = counting[57] = counting[58] = 0;
+    counting[59] = 2;
+    h = shorgavel_header(counting, sizeof counting, SHORGAVEL_FILE);
+    CHECK(accepted(h.refused) && h.fields.reserved_space == 8);
+    CHECK(h.fields.file_change_counter == 0x18191a1b && h.fields.db_size == 0x1c1d1e1f);
+    CHECK(h.fields.first_freelist_page_no == 0x20212223 && h.fields.total_freelist_pages == 0x24252627);
+    CHECK(h.fields.schema_cookie == 0x28292a2b && h.fields.schema_format_no == 0x2c2d2e2f);
+    CHECK(h.fields.default_page_cache_size == 0x30313233 && h.fields.no_largest_root_b_tree == 0x34353637);
+    CHECK(h.fields.db_text_encoding == 2 && h.fields.user_version == 0x3c3d3e3f);
+    CHECK(h.fields.incremental_vacuum_mode == 0x40414243 && h.fields.application_id == 0x44454647);
+    CHECK(h.fields.version_valid_for_no == 0x5c5d5e5f && h.fields.sqlite_version_number == 0x60616263);
+    CHECK(shorgavel_header(counting, sizeof counting, SHORGAVEL_OLD).fields.reserved_space == 0);
+
+    h = shorgavel_header(db, 99, SHORGAVEL_OLD);
+    CHECK(refused(h.refused, 2, 0, 0, 0) && h.fields.page_size == 0);
+    CHECK(refused(shorgavel_header(db, 0, SHORGAVEL_FILE).refused, 1, 0, 0, 0));
+}
+
+static void page(void) {
+    shorgavel_page_answer p = shorgavel_page(db, sizeof db, SHORGAVEL_FILE, 1);
+    CHECK(accepted(p.refused));
+    CHECK(p.head.kind == 13 && p.head.first_freeblock == 0 && p.head.cells == 2);
+    CHECK(p.head.content_start == 494 && p.head.fragmented == 0 && p.head.rightmost == 0);
+    CHECK(shorgavel_page(db, sizeof db, SHORGAVEL_OLD, 0).head.cells == 2);
+    p = shorgavel_page(db, sizeof db, SHORGAVEL_FILE, 2);
+    CHECK(refused(p.refused, 8, 0, 0, 0) && p.head.cells == 0);
+
+    shorgavel_cell_entry e = shorgavel_entry(db, sizeof db, SHORGAVEL_FILE, 1, 1);
+    CHECK(e.kind == 13 && e.pointer == 494 && e.child == 0 && e.payload_size == 7);
+    CHECK(e.row == 2 && e.header_size == 3 && e.columns == 2);
+    CHECK(shorgavel_entry(db, sizeof db, SHORGAVEL_OLD, 0, 0).pointer == 503);
+    CHECK(shorgavel_entry(db, sizeof db, SHORGAVEL_FILE, 1, 2).kind == 0);
+}
+
+/* A table is filled from its first place on, and left alone behind the last entry and on a refusal. */
+static void entries(void) {
+    shorgavel_cell_entry table[3];
+    for (size_t i = 0; i < 3; i++) table[i] = (shorgavel_cell_entry){.kind = 255, .pointer = 7};
+
+    shorgavel_page_answer p = shorgavel_entries(db, sizeof db, SHORGAVEL_FILE, 1, table, 1);
+    CHECK(refused(p.refused, 19, 0, 0, 0) && p.head.cells == 0 && table[0].kind == 255);
+
+    p = shorgavel_entries(db, sizeof db, SHORGAVEL_FILE, 1, table, 3);
+    CHECK(accepted(p.refused) && p.head.kind == 13 && p.head.cells == 2 && p.head.content_start == 494);
+    CHECK(table[0].kind == 13 && table[0].pointer == 503 && table[0].row == 1 && table[0].columns == 2);
+    CHECK(table[1].kind == 13 && table[1].pointer == 494 && table[1].row == 2 && table[1].payload_size == 7);
+    CHECK(table[2].kind == 255 && table[2].pointer == 7);
+}
+
+/* A row's two values along its cursor, and the end of it. */
+typedef shorgavel_next next_call(const uint8_t *, size_t, shorgavel_along);
+
+static void two_values(next_call *next, shorgavel_along first, int64_t z, int width, int wider) {
+    shorgavel_next n = next(db, sizeof db, first);
+    CHECK(n.more == 1 && integer(n.value, width, z));
+    n = next(db, sizeof db, n.along);
+    CHECK(n.more == 1 && integer(n.value, wider, 16777216));
+    shorgavel_along last = n.along;
+    n = next(db, sizeof db, last);
+    CHECK(n.more == 0 && nothing(n.value));
+    CHECK(along(n.along, last.reading, last.at, last.stop, last.value, last.end));
+}
+
+static void cells(void) {
+    shorgavel_cell c = shorgavel_old_cell(db, sizeof db, 0, 0);
+    CHECK(accepted(c.refused) && c.row == 1 && c.columns == 2);
+    CHECK(along(c.along, SHORGAVEL_OLD, 506, 508, 508, 512));
+    two_values(shorgavel_old_next, c.along, 0, 8, 32);
+
+    c = shorgavel_file_cell(db, sizeof db, 1, 0);
+    CHECK(accepted(c.refused) && c.row == 1 && c.columns == 2);
+    CHECK(along(c.along, SHORGAVEL_FILE, 506, 508, 508, 512));
+    two_values(shorgavel_file_next, c.along, 1, 0, 0);
+
+    c = shorgavel_guarded_cell(db, sizeof db, 1, 0);
+    CHECK(refused(c.refused, 21, 3, 0, 0) && c.row == 0 && c.columns == 0);
+    CHECK(along(c.along, 0, 0, 0, 0, 0));
+
+    c = shorgavel_old_cell(db, sizeof db, 0, 1);
+    CHECK(accepted(c.refused) && c.row == 2 && c.columns == 2);
+    two_values(shorgavel_old_next, c.along, 0, 8, 32);
+    c = shorgavel_file_cell(db, sizeof db, 1, 1);
+    CHECK(accepted(c.refused) && c.row == 2 && c.columns == 2);
+    two_values(shorgavel_file_next, c.along, 0, 0, 0);
+    c = shorgavel_guarded_cell(db, sizeof db, 1, 1);
+    CHECK(accepted(c.refused) && c.row == 2 && c.columns == 2);
+    two_values(shorgavel_file_next, c.along, 0, 0, 0);
+
+    CHECK(refused(shorgavel_file_cell(db, sizeof db, 1, 2).refused, 20, 0, 0, 0));
+}
+
+static void values(void) {
+    shorgavel_shown s = shorgavel_old_value(db, sizeof db, 0, 0, 0);
+    CHECK(accepted(s.refused) && integer(s.value, 8, 0));
+    s = shorgavel_file_value(db, sizeof db, 1, 0, 0);
+    CHECK(accepted(s.refused) && integer(s.value, 0, 1));
+    s = shorgavel_guarded_value(db, sizeof db, 1, 0, 0);
+    CHECK(refused(s.refused, 21, 3, 0, 0) && nothing(s.value));
+    s = shorgavel_guarded_value(db, sizeof db, 1, 1, 1);
+    CHECK(accepted(s.refused) && integer(s.value, 0, 16777216));
+    s = shorgavel_file_value(db, sizeof db, 1, 1, 2);
+    CHECK(refused(s.refused, 20, 0, 0, 0) && nothing(s.value));
+}
+
+/* A row with every kind of value: types 1, 2, 6, 7, 17, 16 and 0. Its cell stands at 400, its values from 410 on. */
+static void write_kinds(void) {
+    PUT(110, "\x01\x90");
+    PUT(400, "\x1f\x02\x08\x01\x02\x06\x07\x11\x10\x00");
+    PUT(410, "\xff\xff\xfe\x80\0\0\0\0\0\0\0\x3f\xf8\0\0\0\0\0\0Hi\0\x01");
+}
+
+static int of_kind(shorgavel_value v, size_t column, int has_width) {
+    switch (column) {
+    case 0: return integer(v, has_width ? 8 : 0, -1);
+    case 1: return integer(v, has_width ? 16 : 0, -2);
+    case 2: return integer(v, has_width ? 64 : 0, INT64_MIN);
+    case 3: return value(v, SHORGAVEL_REAL, 0, 0, 0x3ff8000000000000, 0, 0);
+    case 4: return value(v, SHORGAVEL_TEXT, 0, 0, 0, 429, 2);
+    case 5: return value(v, SHORGAVEL_BLOB, 0, 0, 0, 431, 2);
+    default: return nothing(v);
+    }
+}
+
+static void kinds(void) {
+    shorgavel_next in_old = {.along = shorgavel_old_cell(db, sizeof db, 0, 1).along};
+    shorgavel_next in_file = {.along = shorgavel_guarded_cell(db, sizeof db, 1, 1).along};
+    for (size_t k = 0; k < 7; k++) {
+        in_old = shorgavel_old_next(db, sizeof db, in_old.along);
+        in_file = shorgavel_file_next(db, sizeof db, in_file.along);
+        CHECK(in_old.more == 1 && of_kind(in_old.value, k, 1));
+        CHECK(in_file.more == 1 && of_kind(in_file.value, k, 0));
+        CHECK(of_kind(shorgavel_old_value(db, sizeof db, 0, 1, k).value, k, 1));
+        CHECK(of_kind(shorgavel_file_value(db, sizeof db, 1, 1, k).value, k, 0));
+        CHECK(of_kind(shorgavel_guarded_value(db, sizeof db, 1, 1, k).value, k, 0));
+    }
+    CHECK(shorgavel_old_next(db, sizeof db, in_old.along).more == 0);
+    CHECK(shorgavel_file_next(db, sizeof db, in_file.along).more == 0);
+}
+
+/* A refusal with a cell and a column: the first type of cell 1 is reserved. */
+static void reserved(void) {
+    db[403] = 10;
+    CHECK(refused(shorgavel_page(db, sizeof db, SHORGAVEL_FILE, 1).refused, 15, 0, 1, 0));
+    db[403] = 1;
+    db[404] = 10;
+    CHECK(refused(shorgavel_file_cell(db, sizeof db, 1, 1).refused, 15, 0, 1, 1));
+}
+
+int main(void) {
+    write_database();
+    header();
+    page();
+    entries();
+    cells();
+    values();
+    write_kinds();
+    kinds();
+    reserved();
+    puts(failed ? "failed" : "every call answers as expected");
+    return failed;
+}
