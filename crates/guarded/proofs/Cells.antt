@@ -26,7 +26,7 @@ use Rattle.page.proofs.Laws.{page-length}
 use Rattle.page.proofs.Opened.{Opened, open-fits}
 use Rattle.page.proofs.Found.{Found, found}
 use Rattle.marks.specs.declared.Marking.the-variants.{Clear}
-use Rattle.marks.proofs.Some.{neither}
+use Rattle.laws.proofs.Bools.{neither}
 use Rattle.marks.proofs.Same.{same-cell}
 use Rattle.row.specs.Row.{cursorIn}
 use Rattle.row.proofs.Placed.{placed}

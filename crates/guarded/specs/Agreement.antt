@@ -10,6 +10,7 @@ use Rattle.answers.specs.declared.Refusal.the-variants.{InCell}
 use Rattle.answers.specs.declared.Fault.the-variants as fa
 use Rattle.answers.specs.declared.Mark.{Mark}
 use Rattle.cell.specs.declared.Kind.the-variants.{LeafTable}
+use Rattle.columns.specs.declared.Cursor.{Cursor}
 use Rattle.columns.specs.Columns.{typesAt}
 use Rattle.page.specs.declared.KindAnswer.the-variants.{Known}
 use Rattle.page.specs.declared.Located.{Located}
@@ -20,8 +21,10 @@ use Rattle.page.specs.Located.{locatedOf}
 use Rattle.marks.specs.declared.Marking.{Marking}
 use Rattle.marks.specs.declared.Marking.the-variants.{Clear, By}
 use Rattle.marks.specs.Marks.{some, longVarint, storedOne, emptyValue}
+use Rattle.row.specs.declared.CursorAnswer.the-variants as cu
 use Rattle.row.specs.Row.{cursorIn}
-use Rattle.guarded.specs.Guarded.{markIn}
+use Rattle.row.specs.File as file
+use Rattle.guarded.specs.Guarded.{markIn, cursorOf, shownOf}
 use Rattle.guarded.specs.Shows.{Meaning, null, integer, real, text, blob, refused, none, row, oldShows, fileShows, guardedShows}
 
 -- guarded shows a cell only if old (the page counted from 0) and file both show it, with the same row number, column count
@@ -79,3 +82,8 @@ EachShown = (page i : ℕ) (db : List ℕ) (number : ℤ) (values : List Meaning
     → (oldShows page i db ≡ row number values → AllValues values)
     × (fileShows page i db ≡ row number values → AllValues values)
     × (guardedShows page i db ≡ row number values → AllValues values)
+
+-- along a cursor are the values that single calls show, and behind the last there is no column
+abbrev pub CursorShows : Type 0
+CursorShows = (page i k : ℕ) (db : List ℕ) (c : Cursor) → cursorOf page i db ≡ cu.Shown c
+    → file.valueIn (file.along k c db) ≡ shownOf page i k db

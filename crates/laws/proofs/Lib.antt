@@ -4,3 +4,4 @@ pub mod Powers
 pub mod Casts
 pub mod Parts
 pub mod Never
+pub mod Bools

@@ -23,7 +23,7 @@ use Rattle.cell.specs.declared.Kind.the-variants.{LeafTable}
 use Rattle.cell.specs.Cell.{cell, cellOf}
 use Rattle.cell.proofs.Leaf.{Leaf, leaf}
 use Rattle.marks.specs.Marks.{some, longType, storedOne, emptyValue, longVarint}
-use Rattle.marks.proofs.Some.{neither}
+use Rattle.laws.proofs.Bools.{neither}
 use Rattle.marks.proofs.Behind.{size-on, row-on, payload, beyond, payload-on}
 
 -- the types whose values the readings show otherwise

@@ -28,7 +28,7 @@ use Rattle.cell.specs.Cell.{cell, cellOf}
 use Rattle.cell.proofs.Leaf.{leaf, leaf-again}
 use Rattle.marks.specs.declared.Marking.the-variants.{Clear, By}
 use Rattle.marks.specs.Marks.{some, long, longType, storedOne, emptyValue, longVarint, lowest}
-use Rattle.marks.proofs.Some.{neither}
+use Rattle.laws.proofs.Bools.{neither}
 use Rattle.marks.proofs.Behind.{size-on, row-on, payload, beyond, payload-on}
 
 -- NO MARK: none of the four stands

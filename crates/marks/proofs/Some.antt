@@ -3,7 +3,6 @@ use Prim.Native.Nat.{ℕ}
 use mathlib.Core.Path.{_≡_, refl, sym, ap, _∙_}
 use mathlib.Core.Bool.{Bool, true, false, _||_}
 use mathlib.Core.Logic.{_⊎_, inl, inr}
-use Rattle.laws.proofs.Never.{never}
 use Rattle.record.specs.Types.{Num, Types, column}
 use Rattle.marks.specs.declared.Marking.{Marking}
 use Rattle.marks.specs.Marks.{some, longType, storedOne, emptyValue, longVarint, lowestBy, lowest}
@@ -16,10 +15,6 @@ either x y r (inr p) held failed = p .1 ∙ rw (failed (p .0))
 pub or-assoc : (a b c : Bool) → ((a || b) || c) ≡ (a || (b || c))
 or-assoc true b c = refl
 or-assoc false b c = refl
-
-pub neither : (a b : Bool) → (a || b) ≡ false → (a ≡ false) × (b ≡ false)
-neither true b e = never cc
-neither false b e = (refl, e)
 
 -- one type further: found before, or of this type, or behind it
 pub some-next : (f : Num → Bool) (before now whole : Bool) {t : Num} {ts rest : Types} → now ≡ (before || f t) → ts ≡ column t rest

@@ -1,12 +1,13 @@
 -- One cell more of a page, where a cell begins, and that the Rust's row numbers are the same numbers.
 use Prim.Native.Nat.{ℕ, suc, _+_, _-_, _≤_, _<_, _*_, _^_}
-use mathlib.Core.Path.{_≡_, refl}
+use mathlib.Core.Path.{_≡_}
 use mathlib.Core.List.{List}
-use mathlib.Core.Bool.{Bool, true, false, _||_}
+use mathlib.Core.Bool.{false}
 use native.Mathlib.Omega.{arith}
 use lib.Dec.{ltb, leb}
 use lib.IntN.{pos}
 use borrow.Author.Tests.{ltb-false, leb-false, lt-ltb}
+use Rattle.laws.proofs.Bools.{neither}
 use Rattle.fields.specs.Fields.{twos}
 use Rattle.varint.specs.declared.Varint.the-variants.{Value}
 use Rattle.varint.specs.Varint.{varintOf}
@@ -41,14 +42,10 @@ module _ (o : Open) (page : List ℕ) (n i : ℕ) where
     sound-stops e = rw one-more (simp (soundFrom, e))
 
 -- a pointer that is not outside is at most the end
-or-false : (a b : Bool) → a || b ≡ false → (a ≡ false) × (b ≡ false)
-or-false true b e = let z : _≡_ {A = ℕ} 0 1 = cc in absurd (omega arith)
-or-false false b e = (refl, e)
-
 pub inside : (r : Reading) (o : Open) (p : ℕ) → outside r o p ≡ false → p ≤ o .end
-inside old o p e = ltb-false (o .end) p (or-false (ltb (o .end) p) (ltb p (o .from)) e .0)
+inside old o p e = ltb-false (o .end) p (neither (ltb (o .end) p) (ltb p (o .from)) e .0)
 inside file o p e =
-    let l = leb-false (o .end) p (or-false (ltb p (pointersEnd (o .from) (o .kind) (o .cells))) (leb (o .end) p) e .1) in
+    let l = leb-false (o .end) p (neither (ltb p (pointersEnd (o .from) (o .kind) (o .cells))) (leb (o .end) p) e .1) in
     omega arith
 
 -- a row number that the Rust reads, of five bytes at most, is itself as two's complement

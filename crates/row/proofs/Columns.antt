@@ -104,7 +104,7 @@ as-many-as-counted key i db n e = go (locatedOf key i db) refl e
 -- ALONG A CURSOR
 
 -- the old reading
-pub old-along : (k : ℕ) (c : Cursor) (db : List ℕ) → old.along k c db ≡ old.nextBy db (along k c db)
+old-along : (k : ℕ) (c : Cursor) (db : List ℕ) → old.along k c db ≡ old.nextBy db (along k c db)
 unfolding old.along old.nextOf along
 old-along zero c db = refl
 old-along (suc k) c db = go (stepOf c db) (λ next. old-along k next db)
@@ -118,13 +118,17 @@ old-value : (db : List ℕ) (x : Stepped) → old.valueIn (old.nextBy db x) ≡ 
 old-value db st.Done = refl
 old-value db (st.Column t at next) = refl
 
+-- column k from a cursor on, however it was come by
+pub old-from : (k : ℕ) (c : Cursor) (db : List ℕ) → old.valueIn (old.along k c db) ≡ old.shownBy db (slotThen (slotOf k c db))
+old-from k c db = rw (old-along k c db, old-value db (along k c db), along-slot k c db)
+
 old-shows : (number i k : ℕ) (db : List ℕ) (c : Cursor) → cursorOf (oldKey number) i db ≡ cu.Shown c
     → old.valueIn (old.along k c db) ≡ old.shownOf number i k db
 unfolding old.shownOf columnOf
-old-shows number i k db c e = rw (old-along k c db, old-value db (along k c db), along-slot k c db, e)
+old-shows number i k db c e = rw (old-from k c db, e)
 
 -- the file reading
-pub file-along : (k : ℕ) (c : Cursor) (db : List ℕ) → file.along k c db ≡ file.nextBy db (along k c db)
+file-along : (k : ℕ) (c : Cursor) (db : List ℕ) → file.along k c db ≡ file.nextBy db (along k c db)
 unfolding file.along file.nextOf along
 file-along zero c db = refl
 file-along (suc k) c db = go (stepOf c db) (λ next. file-along k next db)
@@ -138,10 +142,14 @@ file-value : (db : List ℕ) (x : Stepped) → file.valueIn (file.nextBy db x) �
 file-value db st.Done = refl
 file-value db (st.Column t at next) = refl
 
+-- column k from a cursor on, however it was come by
+pub file-from : (k : ℕ) (c : Cursor) (db : List ℕ) → file.valueIn (file.along k c db) ≡ file.shownBy db (slotThen (slotOf k c db))
+file-from k c db = rw (file-along k c db, file-value db (along k c db), along-slot k c db)
+
 file-shows : (number i k : ℕ) (db : List ℕ) (c : Cursor) → cursorOf (fileKey number) i db ≡ cu.Shown c
     → file.valueIn (file.along k c db) ≡ file.shownOf number i k db
 unfolding file.shownOf columnOf
-file-shows number i k db c e = rw (file-along k c db, file-value db (along k c db), along-slot k c db, e)
+file-shows number i k db c e = rw (file-from k c db, e)
 
 pub cursor-shows : CursorShows
 cursor-shows number i k db c = (old-shows number i k db c, file-shows number i k db c)
