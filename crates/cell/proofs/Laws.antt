@@ -1,13 +1,14 @@
 -- How the stages of a cell lie in its bytes, and how the code's cell is the definition's.
-use Prim.Native.Nat.{ℕ, _≤_}
+use Prim.Native.Nat.{ℕ, _≤_, _<_}
 use mathlib.Core.Path.{_≡_, refl}
 use mathlib.Core.List.{List}
 use mathlib.Core.Bool.{Bool, true, false}
 use native.Mathlib.Omega.{arith}
 use lib.Dec.{ltb}
-use lib.ListN.{length}
-use borrow.Author.Tests.{ltb-false}
+use lib.ListN.{length, drop}
+use borrow.Author.Tests.{lt-ltb, le-ltb, ltb-false}
 use Rattle.laws.specs.Pick.{pick}
+use Rattle.fields.specs.Fields.{unsigned}
 use Rattle.varint.specs.declared.Varint.{Varint}
 use Rattle.varint.specs.declared.Varint.the-variants as vi
 use Rattle.varint.specs.Varint.{varintOf}
@@ -16,9 +17,11 @@ use Rattle.reading.specs.declared.Reading.{Reading}
 use Rattle.reading.specs.declared.Reading.the-variants.{Old as old, File as file}
 use Rattle.answers.specs.declared.Fault.the-variants as fa
 use Rattle.record.specs.Types.{Num, Types, count}
+use Rattle.cell.specs.declared.Kind.{Kind}
 use Rattle.cell.specs.declared.Payload.the-variants as pa
 use Rattle.cell.specs.declared.Cell as dc
-use Rattle.cell.specs.Cell.{payloadIn, numberIn, closed, closedBy, closedAnswer, closingBy, numberOf, answerOf}
+use Rattle.cell.specs.Kind.{interior}
+use Rattle.cell.specs.Cell.{faulty, payloadIn, numberIn, childed, cellBy, cellOf, closed, closedBy, closedAnswer, closingBy, numberOf, answerOf}
 
 -- a number lies in the bytes
 pub number-within : (has : Bool) (limit : ℕ) (s : List ℕ) {x m : ℕ} → numberIn has limit s ≡ vi.Value x m → m ≤ length s
@@ -49,3 +52,23 @@ closed-answer true child size row header ts n s e = rw (← e) (go (varintOf 5 s
     go : (v : Varint) → closingBy (shown child size row header (count ts)) v ≡ answerOf (closedBy child size header ts v)
     go (vi.Unfinished c) = refl
     go (vi.Value x m) = refl
+
+-- THE CHILD, before the rest of an interior cell
+
+module _ (r : Reading) (k : Kind) (u : ℕ) (s : List ℕ) where
+  pub child-cut : length s < pick (interior k) 4 0 → cellOf r k u s ≡ faulty fa.CellCut
+  unfolding cellOf
+  child-cut = go (interior k)
+    where
+      go : (b : Bool) → length s < pick b 4 0 → cellBy b r k u s ≡ faulty fa.CellCut
+      go true h = rw (lt-ltb (length s) 4 h)
+      go false h = absurd (omega arith)
+
+  pub child-taken : pick (interior k) 4 0 ≤ length s
+      → cellOf r k u s ≡ childed r k u (pick (interior k) (unsigned 4 s) 0) (drop (pick (interior k) 4 0) s)
+  unfolding cellOf
+  child-taken = go (interior k)
+    where
+      go : (b : Bool) → pick b 4 0 ≤ length s → cellBy b r k u s ≡ childed r k u (pick b (unsigned 4 s) 0) (drop (pick b 4 0) s)
+      go true h = rw (le-ltb (length s) 4 h)
+      go false h = refl

@@ -5,6 +5,8 @@
 // file format, 1.6 "B-tree Pages", and the Rust's `_cell` functions.
 ghost use mathlib.Core.Path.{_≡_};
 ghost use Prim.Native.Nat.{_-_, _*_, _/_};
+ghost use Rattle.laws.specs.Pick.{pick};
+ghost use Rattle.fields.specs.Fields.{unsigned};
 ghost use Rattle.record.specs.Record.{recordOf};
 ghost use Rattle.cell.specs.Kind.{kindByte, interior, hasSize, hasRow, mostWhole};
 ghost use Rattle.cell.specs.Cell.{payloadIn, hasClosing, numberIn, recordedBy, held, numbered, rowed, childed, cellOf, closedAnswer, numOf, answerOf};
@@ -316,17 +318,34 @@ fn childed_of(s: &[u8], reading: Reading, kind: Kind, usable: u32, child: u32) -
     )
 }
 
+// How many bytes a child takes.
+pub fn child_bytes(kind: Kind) -> usize
+    ensures { λ r. ⌜ r ≡ pick (interior kind) 4 0 ⌝ }
+{
+    if is_interior(kind) {
+        return 4;
+    }
+    0
+}
+
+// The child of an interior cell.
+fn child_of(s: &[u8], kind: Kind) -> u32
+    ensures { λ r. ⌜ r ≡ pick (interior kind) (unsigned 4 (now (s .entry))) 0 ⌝ }
+{
+    if is_interior(kind) {
+        return fields::be_u32(s);
+    }
+    0
+}
+
 // The cell that begins `s`, the part of a page from the cell's pointer to where cells end (old: the page's end; file: U,
 // which is `usable`).
 pub fn cell_of(s: &[u8], reading: Reading, kind: Kind, usable: u32) -> CellAnswer
     ensures { λ r. ⌜ r ≡ answerOf (cellOf reading kind usable (now (s .entry))) ⌝ }
 {
-    if is_interior(kind) {
-        if s.len() < 4 {
-            return CellAnswer::Faulty(Fault::CellCut);
-        }
-        let child = fields::be_u32(s);
-        return childed_of(&s[4..], reading, kind, usable, child);
+    let own = child_bytes(kind);
+    if s.len() < own {
+        return CellAnswer::Faulty(Fault::CellCut);
     }
-    childed_of(s, reading, kind, usable, 0)
+    childed_of(&s[own..], reading, kind, usable, child_of(s, kind))
 }

@@ -7,8 +7,8 @@ use native.Mathlib.Numerals.{add-one}
 use native.Mathlib.Omega.{arith}
 use lib.Arith.{digits-lt}
 use lib.Dec.{lit<}
-use lib.ListN.{length, take, drop, getD, drop-of-length-le, length-take}
-use lib.Seq.{drop-cons, take-nil, getD-drop}
+use lib.ListN.{length, take, drop, getD, length-take}
+use lib.Seq.{drop-cons, take-all, take-length, getD-drop}
 use Rattle.laws.proofs.Powers.{digits-within}
 use Rattle.fields.specs.Fields.{be, unsigned}
 
@@ -39,8 +39,9 @@ module _ (s : List ℕ) (w i v : ℕ) where
   pub whole : w ≤ i → spells v (take (w - i) (drop i s)) ≡ v
   whole h = let e : w - i ≡ 0 = omega arith in rw e (spells-nil v)
 
-  pub cut : length s ≤ i → spells v (take (w - i) (drop i s)) ≡ v
-  cut h = rw (drop-of-length-le s h, take-nil (w - i)) (spells-nil v)
+-- a part that is shorter than the field is all of it
+pub ends-early : (s : List ℕ) (w : ℕ) → length s ≤ w → unsigned (length s) s ≡ unsigned w s
+ends-early s w h = rw (take-length s, take-all w s h)
 
 -- THE BOUND: bytes are below 256, so w of them spell a number below 256 to the w
 

@@ -6,24 +6,34 @@
 // from nom, under nom's names.
 ghost use mathlib.Core.Path.{_≡_};
 ghost use Prim.Native.Nat.{_*_, _^_, _≤_, _<_};
+ghost use lib.ListN.{length};
 ghost use lib.Signed.{mag};
 ghost use Rattle.fields.specs.Fields.{twos, unsigned, signed};
+
+// The number that the first `width` bytes spell, where as many are there. No byte is looked for, so that a reader of a
+// fixed width is one load.
+fn spelt_whole(part: &[u8], width: usize) -> u64
+    requires { ⌜ (width ≤ 8) × (width ≤ length (now part)) ⌝ }
+    ensures { λ r. ⌜ (r ≡ unsigned width (now (part .entry))) × (r < 256 ^ width) ⌝ }
+{
+    let mut value: u64 = 0;
+    let mut i: usize = 0;
+    while i < width {
+        value = value * 256 + part[i] as u64;
+        i += 1;
+    }
+    value
+}
 
 // The number that the first `width` bytes spell.
 fn spelt(part: &[u8], width: usize) -> u64
     requires { ⌜ width ≤ 8 ⌝ }
     ensures { λ r. ⌜ (r ≡ unsigned width (now (part .entry))) × (r < 256 ^ width) ⌝ }
 {
-    let mut value: u64 = 0;
-    let mut i: usize = 0;
-    while i < width {
-        if part.len() <= i {
-            return value;
-        }
-        value = value * 256 + part[i] as u64;
-        i += 1;
+    if part.len() < width {
+        return spelt_whole(part, part.len());
     }
-    value
+    spelt_whole(part, width)
 }
 
 pub fn be_u16(part: &[u8]) -> u16

@@ -147,10 +147,10 @@ pub fn fit_of(s: &[u8], reading: Reading, a: u64, h: u64) -> Fit
     }
     let m = (h - a) as usize;
     let t = &s[0..m];
-    let laid = lay(t, limit_of(reading), (s.len() - m) as u64);
+    let room = (s.len() - m) as u64;
     match reading {
-        Reading::Old => old_judged(laid),
-        Reading::File => file_judged(t, laid),
+        Reading::Old => old_judged(lay(t, varint::OLD_LIMIT, room)),
+        Reading::File => file_judged(t, lay(t, varint::FILE_LIMIT, room)),
     }
 }
 

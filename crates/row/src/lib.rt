@@ -11,7 +11,7 @@ ghost use mathlib.Core.Path.{_≡_};
 ghost use Prim.Native.Nat.{_≤_};
 ghost use lib.ListN.{drop};
 ghost use Rattle.laws.specs.Pick.{pick};
-ghost use Rattle.cell.specs.Kind.{interior, hasRow};
+ghost use Rattle.cell.specs.Kind.{hasRow};
 ghost use Rattle.cell.specs.Layout.{valuesAt, valuesEnd};
 ghost use Rattle.row.specs.Row.{countOf, rowOf, payloadIn, cursorIn, Lying, foundIn, foundOf, cursorOf, slotThen, columnBy, columnOf};
 use answers::Reason;
@@ -88,16 +88,6 @@ pub fn row_number(db: &[u8], key: usize, i: usize) -> RowAnswer
     }
 }
 
-// How many bytes a cell's child takes.
-fn child_bytes(kind: Kind) -> usize
-    ensures { λ r. ⌜ r ≡ pick (interior kind) 4 0 ⌝ }
-{
-    if cell::is_interior(kind) {
-        return 4;
-    }
-    0
-}
-
 // How many bytes before the payload are a row number's of so many bytes.
 fn row_bytes(kind: Kind, length: usize) -> usize
     ensures { λ r. ⌜ r ≡ pick (hasRow kind) length 0 ⌝ }
@@ -117,7 +107,7 @@ fn payload_in(bytes: usize, opened: Open, pointer: usize, cell: Cell) -> usize
     let size = cell.size;
     let row = cell.row;
     let number = row_bytes(kind, row.length);
-    opened.at + pointer + child_bytes(kind) + size.length + number
+    opened.at + pointer + cell::child_bytes(kind) + size.length + number
 }
 
 // Where its values begin, the payload being at `from`.
@@ -239,7 +229,7 @@ fn shown_at(slot: Slot) -> ColumnAnswer
 }
 
 // The bytes from `at` on, as far as there are any.
-fn from(s: &[u8], at: usize) -> &[u8]
+pub fn from(s: &[u8], at: usize) -> &[u8]
     ensures { λ r. ⌜ now r ≡ drop at (now (s .entry)) ⌝ }
 {
     if s.len() < at {

@@ -4,7 +4,7 @@ use mathlib.Core.Path.{_≡_, refl}
 use mathlib.Core.Bool.{Bool, true, false}
 use native.Mathlib.Omega.{arith}
 use lib.Dec.{eqb}
-use lib.ListN.{getD}
+use lib.ListN.{getD, List·getD-eq-default}
 use borrow.Author.Tests.{lt-ltb, le-ltb, eqb-false}
 use Rattle.laws.specs.Pick.{pick}
 use Rattle.tables.specs.Tables.{widths}
@@ -18,6 +18,10 @@ length-either kind h = go (eqb (kind % 2) 0) refl
     go : (b : Bool) → eqb (kind % 2) 0 ≡ b → (kind - 12) / 2 ≡ pick b ((kind - 12) / 2) ((kind - 13) / 2)
     go true e = refl
     go false e = let odd = eqb-false (kind % 2) 0 e in omega arith
+
+-- past the table
+pub no-width : (kind : ℕ) → 10 ≤ kind → getD widths kind 0 ≡ 0
+no-width kind h = List·getD-eq-default widths 0 {n = kind} h
 
 module _ (kind : ℕ) where
   pub width-small : kind < 10 → widthOf kind ≡ Bytes (getD widths kind 0)

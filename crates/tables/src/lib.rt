@@ -1,7 +1,5 @@
-// The constant tables of the file format: the widths of the serial types, and where the header's fields stand.
-
-// The widths of serial types 0 to 9: file format, 2.1 "Record Format".
-pub const WIDTHS: [u64; 10] = [0, 1, 2, 3, 4, 6, 8, 8, 0, 0];
+// The constant tables of the file format: where the header's fields stand; and, in specs/Tables.antt, the widths of the
+// serial types.
 
 pub struct Field {
     pub at: usize,

@@ -1,14 +1,17 @@
--- Which patterns are a NaN's, and what the long types of both readings come to.
-use Prim.Native.Nat.{ℕ, _+_, _%_, _≤_, _<_}
+-- Which patterns are a NaN's, which types are long, and what those of both readings come to.
+use Prim.Native.Nat.{ℕ, zero-le, _+_, _-_, _/_, _%_, _≤_, _<_}
 use mathlib.Core.Path.{_≡_, refl, sym, _∙_}
 use mathlib.Core.List.{List}
-use mathlib.Core.Bool.{true, not}
+use mathlib.Core.Bool.{Bool, true, false, not}
 use native.Mathlib.Omega.{arith}
-use lib.Dec.{T}
+use lib.Dec.{T, ltb, eqb}
 use lib.IntN.{pos}
 use lib.Ieee.{Float, nan, inf, fin, binary64, ofBits, nanBits, isNan, div}
 use lib.Ieee.Bits.{nanBits-is, nanBits-above}
-use borrow.Author.Tests.{lt-ltb, le-ltb, ne-eqb}
+use borrow.Author.Tests.{lt-ltb, le-ltb, eq-eqb, ne-eqb, eqb-true, ltb-true, ltb-false}
+use Rattle.laws.specs.Pick.{pick}
+use Rattle.serial.specs.Serial.{isBlob, lengthOf}
+use Rattle.serial.proofs.Laws.{length-either}
 use Rattle.values.specs.File as file
 use Rattle.values.specs.Old as old
 use Rattle.values.specs.declared.old.Value.the-variants.{I8}
@@ -37,6 +40,30 @@ the-nan bits h =
 -- what is none of the numbers up to n is past it
 pub past : (n : ℕ) {k : ℕ} → n ≤ k → (k ≡ n → ⊥) → n + 1 ≤ k
 past n h e = omega arith
+
+abbrev other : ℕ → ℕ → Type 0
+other kind n = kind ≡ n → ⊥
+
+-- a type that no arm from 0 to 9 names
+pub ten : {k : ℕ} → (((((((((Unit {0} × other k 0) × other k 1) × other k 2) × other k 3) × other k 4) × other k 5) × other k 6) × other k 7) × other k 8) × other k 9 → 10 ≤ k
+ten (((((((((((u, n0), n1), n2), n3), n4), n5), n6), n7), n8), n9)) =
+    past 9 (past 8 (past 7 (past 6 (past 5 (past 4 (past 3 (past 2 (past 1 (past 0 zero-le n0) n1) n2) n3) n4) n5) n6) n7) n8) n9
+
+-- below 14 a text or a blob would have no bytes
+pub no-bytes : (kind : ℕ) → eqb (lengthOf kind) 0 ≡ ltb kind 14
+no-bytes kind = go (ltb kind 14) refl
+  where
+    short : kind < 14 → (b : Bool) → isBlob kind ≡ b → pick b ((kind - 12) / 2) ((kind - 13) / 2) ≡ 0
+    short h true e = let even = eqb-true (kind % 2) 0 e in omega arith
+    short h false e = omega arith
+
+    go : (b : Bool) → ltb kind 14 ≡ b → eqb (lengthOf kind) 0 ≡ b
+    go true e = eq-eqb (lengthOf kind) 0 (short (ltb-true kind 14 e) (isBlob kind) refl)
+    go false e =
+        let h = ltb-false kind 14 e in
+        let l = length-either kind (omega arith) in
+        let n : lengthOf kind ≡ 0 → ⊥ = λ z. omega (arith, l ∙ z) in
+        ne-eqb (lengthOf kind) 0 n
 
 -- past the types of fixed width
 module _ (kind at : ℕ) (s : List ℕ) (h : 10 ≤ kind) where

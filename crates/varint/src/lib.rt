@@ -26,8 +26,29 @@ pub const OLD_LIMIT: usize = 5;
 // How many bytes the format has at most.
 pub const FILE_LIMIT: usize = 9;
 
-// Reads the varint of at most `limit` bytes at the slice's first byte.
+// Reads the varint of at most `limit` bytes at the slice's first byte. Most varints are one byte, which is looked at here,
+// so that a caller has it at no cost.
 pub fn read(s: &[u8], limit: usize) -> Varint
+    ensures { λ r. ⌜ r ≡ varintOf limit (now (s .entry)) ⌝ }
+{
+    if limit == 0 {
+        return read_on(s, limit);
+    }
+    if s.len() == 0 {
+        return read_on(s, limit);
+    }
+    let b = s[0] as u64;
+    if 128 <= b {
+        return read_on(s, limit);
+    }
+    Varint::Value {
+        value: b,
+        length: 1,
+    }
+}
+
+// The same, byte by byte.
+fn read_on(s: &[u8], limit: usize) -> Varint
     ensures { λ r. ⌜ r ≡ varintOf limit (now (s .entry)) ⌝ }
 {
     let mut value: u64 = 0;

@@ -1,12 +1,9 @@
 -- The tests are the definition's; how all lies is what `lay` says of the header's bytes.
-use Prim.Native.Nat.{_-_}
 use mathlib.Core.Path.{_≡_, sym, ap, _∙_}
 use native.Mathlib.Nat.{sub-zero}
-use lib.ListN.{length}
 use denote.Ref.{now}
 use Rattle.reading.specs.Reading.{limit}
-use Rattle.record.specs.Types.{walk}
-use Rattle.record.specs.Record.{oldJudged, typesIn}
+use Rattle.record.specs.Record.{typesIn}
 use Rattle.record.proofs.Stages.{fit-below, fit-short, fit-laid, judged-old, judged-file}
 use borrow.Author.Needs.{needs}
 use Rattle.record.proofs.fit_of.Statement.{statement}
@@ -29,17 +26,14 @@ part-t-start c = search needs
 part-t-end : tie.Need-part-t-end
 part-t-end c = search needs
 
-limit-of-requires : tie.Need-limit-of-requires
-limit-of-requires c κs = search needs
-
-sub-lay : tie.Need-sub-lay
-sub-lay c = search needs
-
-lay-requires : tie.Need-lay-requires
-lay-requires c κs = search needs
+sub-room : tie.Need-sub-room
+sub-room c = search needs
 
 enum-told : tie.Need-enum-told
 enum-told c = search needs
+
+lay-requires : tie.Need-lay-requires
+lay-requires c κs = search needs
 
 old-judged-requires : tie.Need-old-judged-requires
 old-judged-requires c κs = search needs
@@ -47,32 +41,29 @@ old-judged-requires c κs = search needs
 enum-told-2 : tie.Need-enum-told-2
 enum-told-2 c = search needs
 
+lay-requires-2 : tie.Need-lay-requires-2
+lay-requires-2 c κs = search needs
+
 file-judged-requires : tie.Need-file-judged-requires
 file-judged-requires c κs = search needs
 
--- what the call of `lay` said
-laid-is : (c : tie.After-lay)
-    → c .lay .result
-    ≡ walk 0 (length (now (c .before .before .before .before .before .before .args .s)) - (c .before .before .before .before .before .before .args .h - c .before .before .before .before .before .before .args .a))
-    (typesIn (c .before .before .before .before .before .before .args .reading) (c .before .before .before .before .before .before .args .a) (c .before .before .before .before .before .before .args .h) (now (c .before .before .before .before .before .before .args .s)))
-laid-is c = c .lay .ensures ∙ rw (c .before .limit-of .ensures, sub-zero)
-
 returns-3 : tie.Need-returns-3
 returns-3 c =
-    let a = c .before .before .before .before .before .before .before .before .before .args in
+    let a = c .before .before .before .before .before .before .before .before .args in
     let ts = typesIn (a .reading) (a .a) (a .h) (now (a .s)) in
+    let five : limit (a .reading) ≡ 5 = ap limit (c .before .before .enum-told .given .1) in
     c .old-judged .ensures
-    ∙ ap oldJudged (laid-is (c .before .before .before))
-    ∙ sym (fit-laid (a .reading) (a .a) (a .h) (now (a .s)) (search needs) (search needs) ∙ judged-old (c .before .enum-told .given .1) ts _)
+    ∙ rw (c .before .lay .ensures, sub-zero, ← five)
+    (sym (fit-laid (a .reading) (a .a) (a .h) (now (a .s)) (search needs) (search needs) ∙ judged-old (c .before .before .enum-told .given .1) ts _))
 
 returns-4 : tie.Need-returns-4
 returns-4 c =
-    let a = c .before .before .before .before .before .before .before .before .before .args in
+    let a = c .before .before .before .before .before .before .before .before .args in
     let ts = typesIn (a .reading) (a .a) (a .h) (now (a .s)) in
-    let nine : limit (a .reading) ≡ 9 = ap limit (c .before .enum-told2 .given .1) in
+    let nine : limit (a .reading) ≡ 9 = ap limit (c .before .before .enum-told2 .given .1) in
     c .file-judged .ensures
-    ∙ rw (laid-is (c .before .before .before), sub-zero, ← nine)
-    (sym (fit-laid (a .reading) (a .a) (a .h) (now (a .s)) (search needs) (search needs) ∙ judged-file (c .before .enum-told2 .given .1) ts _))
+    ∙ rw (c .before .lay2 .ensures, sub-zero, ← nine)
+    (sym (fit-laid (a .reading) (a .a) (a .h) (now (a .s)) (search needs) (search needs) ∙ judged-file (c .before .before .enum-told2 .given .1) ts _))
 
 pub fit-of-spec : {M : Type 1} → statement M
 fit-of-spec =
@@ -83,12 +74,12 @@ fit-of-spec =
     sub-t
     part-t-start
     part-t-end
-    limit-of-requires
-    sub-lay
-    lay-requires
+    sub-room
     enum-told
+    lay-requires
     old-judged-requires
     enum-told-2
+    lay-requires-2
     file-judged-requires
     returns-3
     returns-4)

@@ -6,14 +6,11 @@ use Rattle.serial.proofs.Laws.{length-either, width-small, width-reserv
 use Rattle.serial.proofs.width_of.Statement.{statement}
 use Rattle.serial.proofs.width_of.Tie as tie
 
-mul-t5 : tie.Need-mul-t5
-mul-t5 c = search needs
-
-array-read-t8 : tie.Need-array-read-t8
-array-read-t8 c = search needs
+short-width-requires : tie.Need-short-width-requires
+short-width-requires c κs = search needs
 
 returns : tie.Need-returns
-returns c = sym (width-small _ (c .if1 .taken))
+returns c = ap Bytes (c .short-width .ensures) ∙ sym (width-small _ (c .before .if1 .taken))
 
 returns-2 : tie.Need-returns-2
 returns-2 c = sym (width-reserved _ (c .before .if1 .left) (c .if2 .taken))
@@ -24,4 +21,4 @@ returns-3 c =
     ap Bytes (length-either kind (c .if2 .left)) ∙ sym (width-long kind (c .if2 .left))
 
 pub width-of-spec : {M : Type 1} → statement M
-width-of-spec = tie.close (tie.spec mul-t5 array-read-t8 returns returns-2 returns-3)
+width-of-spec = tie.close (tie.spec short-width-requires returns returns-2 returns-3)

@@ -1,5 +1,4 @@
 -- At each type the definition computes to the reader that the code calls.
-use Prim.Native.Nat.{zero-le, _≤_}
 use mathlib.Core.Path.{sym, ap, _∙_}
 use mir.Syntax.{w8, w16, w32, w64}
 use mir.Facts.{toZ-ofZ}
@@ -8,7 +7,7 @@ use borrow.Author.Needs.{needs}
 use Rattle.laws.proofs.Casts.{widen-fits, widen-same}
 use Rattle.values.specs.File.{valueOf}
 use Rattle.values.specs.declared.file.Value.the-variants.{Integer}
-use Rattle.values.proofs.Laws.{past, file-long}
+use Rattle.values.proofs.Laws.{ten, file-long}
 use Rattle.values.proofs.file.value_of.Statement.{statement}
 use Rattle.values.proofs.file.value_of.Tie as tie
 
@@ -104,9 +103,7 @@ returns-10 c = rw (c .match .keys10)
 returns-11 : tie.Need-returns-11
 returns-11 c =
     let a = c .before .before .before .args in
-    let r = c .before .match .rest in
-    let h : 10 ≤ a .kind = past 9 (past 8 (past 7 (past 6 (past 5 (past 4 (past 3 (past 2 (past 1 (past 0 zero-le (r .0 .0 .0 .0 .0 .0 .0 .0 .0 .1)) (r .0 .0 .0 .0 .0 .0 .0 .0 .1)) (r .0 .0 .0 .0 .0 .0 .0 .1)) (r .0 .0 .0 .0 .0 .0 .1)) (r .0 .0 .0 .0 .0 .1)) (r .0 .0 .0 .0 .1)) (r .0 .0 .0 .1)) (r .0 .0 .1)) (r .0 .1)) (r .1) in
-    c .long .ensures ∙ sym (file-long (a .kind) (a .at) (now (a .part)) h)
+    c .long .ensures ∙ sym (file-long (a .kind) (a .at) (now (a .part)) (ten (c .before .match .rest)))
 
 pub value-of-spec : {M : Type 1} → statement M
 value-of-spec =

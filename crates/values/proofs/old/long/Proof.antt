@@ -1,25 +1,15 @@
 -- The tests on the type are the definition's, and one sum is the length of both.
-use Prim.Native.Nat.{ℕ, _-_, _/_, _%_, _<_}
-use mathlib.Core.Path.{_≡_, refl}
-use mathlib.Core.Bool.{Bool, true, false}
+use Prim.Native.Nat.{_%_}
 use native.Mathlib.Omega.{arith}
 use borrow.Author.Needs.{needs}
-use borrow.Author.Tests.{eq-eqb, ne-eqb, eqb-true}
-use Rattle.laws.specs.Pick.{pick}
-use Rattle.serial.specs.Serial.{isBlob, lengthOf}
+use borrow.Author.Tests.{lt-ltb, le-ltb, eq-eqb, ne-eqb}
+use Rattle.serial.proofs.Laws.{length-either}
+use Rattle.values.proofs.Laws.{no-bytes}
 use Rattle.values.proofs.old.long.Statement.{statement}
 use Rattle.values.proofs.old.long.Tie as tie
 
--- the types with no bytes are those below 14
-short : (kind : ℕ) → kind < 14 → lengthOf kind ≡ 0
-short kind h = go (isBlob kind) refl
-  where
-    go : (b : Bool) → isBlob kind ≡ b → pick b ((kind - 12) / 2) ((kind - 13) / 2) ≡ 0
-    go true e = let even = eqb-true (kind % 2) 0 e in omega arith
-    go false e = omega arith
-
 returns : tie.Need-returns
-returns c = let kind = c .before .args .kind in rw (eq-eqb (lengthOf kind) 0 (short kind (c .if1 .taken)))
+returns c = let kind = c .before .args .kind in rw (no-bytes kind, lt-ltb kind 14 (omega arith))
 
 sub-len : tie.Need-sub-len
 sub-len c = search needs
@@ -27,13 +17,14 @@ sub-len c = search needs
 returns-2 : tie.Need-returns-2
 returns-2 c =
     let kind = c .before .before .args .kind in
-    rw (eq-eqb (kind % 2) 0 (c .if2 .taken), ne-eqb ((kind - 12) / 2) 0 (omega arith))
+    let e = length-either kind (omega arith) in
+    rw (no-bytes kind, e, le-ltb kind 14 (omega arith), eq-eqb (kind % 2) 0 (c .if2 .taken))
 
 returns-3 : tie.Need-returns-3
 returns-3 c =
     let kind = c .before .before .args .kind in
-    let e : (kind - 12) / 2 ≡ (kind - 13) / 2 = omega arith in
-    rw (ne-eqb (kind % 2) 0 (c .if2 .left), ne-eqb ((kind - 13) / 2) 0 (omega arith), e)
+    let e = length-either kind (omega arith) in
+    rw (no-bytes kind, e, le-ltb kind 14 (omega arith), ne-eqb (kind % 2) 0 (c .if2 .left))
 
 pub long-spec : {M : Type 1} → statement M
 long-spec = tie.close (tie.spec returns sub-len returns-2 returns-3)
