@@ -102,11 +102,34 @@ shorgavel_page_answer shorgavel_entries(const uint8_t *db, size_t length, uint8_
 /* The entry of a cell of a page. */
 shorgavel_cell_entry shorgavel_entry(const uint8_t *db, size_t length, uint8_t reading, uint32_t page, size_t cell);
 
+/* A PAGE THAT IS OPENED, for reading one cell of it after another with no check of header and page made again */
+
+/* It is handed back as it was answered, with the same database. */
+typedef struct {
+    uint8_t reading;
+    uint8_t kind; /* the format's byte: 2, 5, 10 or 13 */
+    uint32_t end; /* where its cells end */
+    size_t at;    /* where the page lies in the database, and its size */
+    size_t size;
+    size_t from;  /* where its header stands in it */
+    size_t cells; /* how many cells it has */
+} shorgavel_opened;
+
+typedef struct {
+    shorgavel_refused refused;
+    shorgavel_opened opened;
+} shorgavel_opening;
+
+/* The page, its cells being looked at by no check yet. */
+shorgavel_opening shorgavel_open(const uint8_t *db, size_t length, uint8_t reading, uint32_t page);
+
+/* The page if it is a table leaf, for the guarded reading. */
+shorgavel_opening shorgavel_guarded_open(const uint8_t *db, size_t length, uint32_t page);
+
 /* ONE CELL: it is checked by itself, whatever other cells are like. */
 
 /* A cursor along a row. It is handed back as it was answered, with the same database. */
 typedef struct {
-    uint8_t reading;
     size_t at;
     size_t stop;
     size_t value;
@@ -120,6 +143,12 @@ typedef struct {
     size_t columns;
     shorgavel_along along;
 } shorgavel_cell;
+
+/* A cell of a page that shorgavel_open opened: what shorgavel_old_cell or shorgavel_file_cell answers for it. */
+shorgavel_cell shorgavel_cell_in(const uint8_t *db, size_t length, shorgavel_opened page, size_t cell);
+
+/* A cell of a page that shorgavel_guarded_open opened: what shorgavel_guarded_cell answers for it. */
+shorgavel_cell shorgavel_guarded_cell_in(const uint8_t *db, size_t length, shorgavel_opened page, size_t cell);
 
 /* The cell as the old reading has it. */
 shorgavel_cell shorgavel_old_cell(const uint8_t *db, size_t length, uint32_t page, size_t cell);
@@ -149,12 +178,11 @@ typedef struct {
     size_t len;      /* and how many there are */
 } shorgavel_value;
 
-/* The value at a cursor and the cursor behind it; where the row has ended, more is 0 and the cursor as it was. */
+/* How many values a table was filled with, and the cursor behind the last of them. */
 typedef struct {
-    uint8_t more;
-    shorgavel_value value;
+    size_t count;
     shorgavel_along along;
-} shorgavel_next;
+} shorgavel_filled;
 
 /* The value of a column, or why there is none. */
 typedef struct {
@@ -162,11 +190,20 @@ typedef struct {
     shorgavel_value value;
 } shorgavel_shown;
 
-/* The next value of a row that shorgavel_old_cell opened. */
-shorgavel_next shorgavel_old_next(const uint8_t *db, size_t length, shorgavel_along along);
+/* The size of a table of so many places, as the two calls below are told it: in words of 64 bits. */
+#define SHORGAVEL_WORDS(places) ((places) * (sizeof(shorgavel_value) / sizeof(int64_t)))
 
-/* The next value of a row that shorgavel_file_cell or shorgavel_guarded_cell opened. */
-shorgavel_next shorgavel_file_next(const uint8_t *db, size_t length, shorgavel_along along);
+/* The values of a row from a cursor on, into a table: as many as there are and as it has places. Fewer than its places are
+ * stored where the row ends; places behind them are left as they were. The pointer is not null, also where there is no
+ * place. */
+
+/* Of a row whose cursor came from an old cell. */
+shorgavel_filled shorgavel_old_values(const uint8_t *db, size_t length, shorgavel_along along, shorgavel_value *table,
+                                      size_t words);
+
+/* Of a row whose cursor came from a file cell or a guarded one. */
+shorgavel_filled shorgavel_file_values(const uint8_t *db, size_t length, shorgavel_along along, shorgavel_value *table,
+                                       size_t words);
 
 /* One column of a cell as the old reading shows it. Columns count from 0. */
 shorgavel_shown shorgavel_old_value(const uint8_t *db, size_t length, uint32_t page, size_t cell, size_t column);

@@ -49,8 +49,8 @@ static int integer(shorgavel_value v, int width, int64_t z) { return value(v, SH
 
 static int nothing(shorgavel_value v) { return value(v, SHORGAVEL_NULL, 0, 0, 0, 0, 0); }
 
-static int along(shorgavel_along a, int reading, size_t at, size_t stop, size_t v, size_t end) {
-    return a.reading == reading && a.at == at && a.stop == stop && a.value == v && a.end == end;
+static int along(shorgavel_along a, size_t at, size_t stop, size_t v, size_t end) {
+    return a.at == at && a.stop == stop && a.value == v && a.end == end;
 }
 
 /* THE CALLS */
@@ -118,46 +118,93 @@ static void entries(void) {
     CHECK(table[2].kind == 255 && table[2].pointer == 7);
 }
 
-/* A row's two values along its cursor, and the end of it. */
-typedef shorgavel_next next_call(const uint8_t *, size_t, shorgavel_along);
+/* A row's two values along its cursor: one by one, both at once, and none behind them. */
+typedef shorgavel_filled values_call(const uint8_t *, size_t, shorgavel_along, shorgavel_value *, size_t);
 
-static void two_values(next_call *next, shorgavel_along first, int64_t z, int width, int wider) {
-    shorgavel_next n = next(db, sizeof db, first);
-    CHECK(n.more == 1 && integer(n.value, width, z));
-    n = next(db, sizeof db, n.along);
-    CHECK(n.more == 1 && integer(n.value, wider, 16777216));
-    shorgavel_along last = n.along;
-    n = next(db, sizeof db, last);
-    CHECK(n.more == 0 && nothing(n.value));
-    CHECK(along(n.along, last.reading, last.at, last.stop, last.value, last.end));
+static const shorgavel_value blank = {.kind = 255, .width = 7, .integer = 7, .bits = 7, .at = 7, .len = 7};
+
+static int is_blank(shorgavel_value v) { return value(v, 255, 7, 7, 7, 7, 7); }
+
+static void two_values(values_call *fill, shorgavel_along first, int64_t z, int width, int wider) {
+    shorgavel_value table[3] = {blank, blank, blank};
+    shorgavel_filled f = fill(db, sizeof db, first, table, SHORGAVEL_WORDS(1));
+    CHECK(f.count == 1 && integer(table[0], width, z) && is_blank(table[1]));
+    f = fill(db, sizeof db, f.along, table, SHORGAVEL_WORDS(1));
+    CHECK(f.count == 1 && integer(table[0], wider, 16777216) && is_blank(table[1]));
+    shorgavel_along last = f.along;
+
+    table[0] = blank;
+    f = fill(db, sizeof db, last, table, SHORGAVEL_WORDS(3));
+    CHECK(f.count == 0 && is_blank(table[0]) && along(f.along, last.at, last.stop, last.value, last.end));
+
+    f = fill(db, sizeof db, first, table, SHORGAVEL_WORDS(3));
+    CHECK(f.count == 2 && integer(table[0], width, z) && integer(table[1], wider, 16777216) && is_blank(table[2]));
+    CHECK(along(f.along, last.at, last.stop, last.value, last.end));
+    CHECK(fill(db, sizeof db, first, table, SHORGAVEL_WORDS(1) - 1).count == 0);
 }
 
 static void cells(void) {
     shorgavel_cell c = shorgavel_old_cell(db, sizeof db, 0, 0);
     CHECK(accepted(c.refused) && c.row == 1 && c.columns == 2);
-    CHECK(along(c.along, SHORGAVEL_OLD, 506, 508, 508, 512));
-    two_values(shorgavel_old_next, c.along, 0, 8, 32);
+    CHECK(along(c.along, 506, 508, 508, 512));
+    two_values(shorgavel_old_values, c.along, 0, 8, 32);
 
     c = shorgavel_file_cell(db, sizeof db, 1, 0);
     CHECK(accepted(c.refused) && c.row == 1 && c.columns == 2);
-    CHECK(along(c.along, SHORGAVEL_FILE, 506, 508, 508, 512));
-    two_values(shorgavel_file_next, c.along, 1, 0, 0);
+    CHECK(along(c.along, 506, 508, 508, 512));
+    two_values(shorgavel_file_values, c.along, 1, 0, 0);
 
     c = shorgavel_guarded_cell(db, sizeof db, 1, 0);
     CHECK(refused(c.refused, 21, 3, 0, 0) && c.row == 0 && c.columns == 0);
-    CHECK(along(c.along, 0, 0, 0, 0, 0));
+    CHECK(along(c.along, 0, 0, 0, 0));
 
     c = shorgavel_old_cell(db, sizeof db, 0, 1);
     CHECK(accepted(c.refused) && c.row == 2 && c.columns == 2);
-    two_values(shorgavel_old_next, c.along, 0, 8, 32);
+    two_values(shorgavel_old_values, c.along, 0, 8, 32);
     c = shorgavel_file_cell(db, sizeof db, 1, 1);
     CHECK(accepted(c.refused) && c.row == 2 && c.columns == 2);
-    two_values(shorgavel_file_next, c.along, 0, 0, 0);
+    two_values(shorgavel_file_values, c.along, 0, 0, 0);
     c = shorgavel_guarded_cell(db, sizeof db, 1, 1);
     CHECK(accepted(c.refused) && c.row == 2 && c.columns == 2);
-    two_values(shorgavel_file_next, c.along, 0, 0, 0);
+    two_values(shorgavel_file_values, c.along, 0, 0, 0);
 
     CHECK(refused(shorgavel_file_cell(db, sizeof db, 1, 2).refused, 20, 0, 0, 0));
+}
+
+/* Cells of an opened page are those that the calls on one cell answer. */
+static int same(shorgavel_cell a, shorgavel_cell b) {
+    return refused(a.refused, b.refused.number, b.refused.mark, b.refused.cell, b.refused.column) && a.row == b.row &&
+           a.columns == b.columns && along(a.along, b.along.at, b.along.stop, b.along.value, b.along.end);
+}
+
+static int opened(shorgavel_opened o, int reading) {
+    return o.reading == reading && o.kind == 13 && o.end == 512 && o.at == 0 && o.size == 512 && o.from == 100 &&
+           o.cells == 2;
+}
+
+static void opened_pages(void) {
+    shorgavel_opening old = shorgavel_open(db, sizeof db, SHORGAVEL_OLD, 0);
+    shorgavel_opening file = shorgavel_open(db, sizeof db, SHORGAVEL_FILE, 1);
+    shorgavel_opening guarded = shorgavel_guarded_open(db, sizeof db, 1);
+    CHECK(accepted(old.refused) && opened(old.opened, SHORGAVEL_OLD));
+    CHECK(accepted(file.refused) && opened(file.opened, SHORGAVEL_FILE));
+    CHECK(accepted(guarded.refused) && opened(guarded.opened, SHORGAVEL_FILE));
+    for (size_t i = 0; i < 3; i++) {
+        CHECK(same(shorgavel_cell_in(db, sizeof db, old.opened, i), shorgavel_old_cell(db, sizeof db, 0, i)));
+        CHECK(same(shorgavel_cell_in(db, sizeof db, file.opened, i), shorgavel_file_cell(db, sizeof db, 1, i)));
+        CHECK(same(shorgavel_guarded_cell_in(db, sizeof db, guarded.opened, i), shorgavel_guarded_cell(db, sizeof db, 1, i)));
+    }
+
+    CHECK(refused(shorgavel_open(db, sizeof db, SHORGAVEL_FILE, 2).refused, 8, 0, 0, 0));
+    db[100] = 10;
+    guarded = shorgavel_guarded_open(db, sizeof db, 1);
+    CHECK(refused(guarded.refused, 10, 0, 0, 0) && guarded.opened.cells == 0 && guarded.opened.kind == 0);
+    CHECK(shorgavel_open(db, sizeof db, SHORGAVEL_FILE, 1).opened.kind == 10);
+    db[100] = 13;
+
+    /* Numbers that no page has are answered too. */
+    file.opened.cells = SIZE_MAX;
+    CHECK(refused(shorgavel_cell_in(db, sizeof db, file.opened, 0).refused, 8, 0, 0, 0));
 }
 
 static void values(void) {
@@ -193,19 +240,18 @@ static int of_kind(shorgavel_value v, size_t column, int has_width) {
 }
 
 static void kinds(void) {
-    shorgavel_next in_old = {.along = shorgavel_old_cell(db, sizeof db, 0, 1).along};
-    shorgavel_next in_file = {.along = shorgavel_guarded_cell(db, sizeof db, 1, 1).along};
+    shorgavel_value in_old[8], in_file[8];
+    shorgavel_along old = shorgavel_old_cell(db, sizeof db, 0, 1).along;
+    shorgavel_along file = shorgavel_guarded_cell(db, sizeof db, 1, 1).along;
+    CHECK(shorgavel_old_values(db, sizeof db, old, in_old, SHORGAVEL_WORDS(8)).count == 7);
+    CHECK(shorgavel_file_values(db, sizeof db, file, in_file, SHORGAVEL_WORDS(8)).count == 7);
     for (size_t k = 0; k < 7; k++) {
-        in_old = shorgavel_old_next(db, sizeof db, in_old.along);
-        in_file = shorgavel_file_next(db, sizeof db, in_file.along);
-        CHECK(in_old.more == 1 && of_kind(in_old.value, k, 1));
-        CHECK(in_file.more == 1 && of_kind(in_file.value, k, 0));
+        CHECK(of_kind(in_old[k], k, 1));
+        CHECK(of_kind(in_file[k], k, 0));
         CHECK(of_kind(shorgavel_old_value(db, sizeof db, 0, 1, k).value, k, 1));
         CHECK(of_kind(shorgavel_file_value(db, sizeof db, 1, 1, k).value, k, 0));
         CHECK(of_kind(shorgavel_guarded_value(db, sizeof db, 1, 1, k).value, k, 0));
     }
-    CHECK(shorgavel_old_next(db, sizeof db, in_old.along).more == 0);
-    CHECK(shorgavel_file_next(db, sizeof db, in_file.along).more == 0);
 }
 
 /* A refusal with a cell and a column: the first type of cell 1 is reserved. */
@@ -223,6 +269,7 @@ int main(void) {
     page();
     entries();
     cells();
+    opened_pages();
     values();
     write_kinds();
     kinds();

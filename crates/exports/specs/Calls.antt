@@ -1,21 +1,26 @@
 -- What the exported calls answer: the readers' definitions, turned.
 use Prim.Native.Nat.{ℕ}
 use mathlib.Core.List.{List}
+use Rattle.reading.specs.declared.Reading.the-variants.{Old, File}
 use Rattle.header.specs.Header as header
 use Rattle.page.specs.Place.{oldKey, fileKey}
+use Rattle.page.specs.Open as opening
 use Rattle.page.specs.Page as page
-use Rattle.row.specs.Row.{foundBy, foundOf}
+use Rattle.row.specs.Row.{foundBy, foundIn, foundOf}
 use Rattle.row.specs.Old as old
 use Rattle.row.specs.File as file
 use Rattle.guarded.specs.Guarded as guarded
+use Rattle.guarded.specs.Steps as steps
+use Rattle.exports.specs.declared.types.Opened.{Opened}
+use Rattle.exports.specs.declared.types.Opening.{Opening}
 use Rattle.exports.specs.declared.types.Along.{Along}
 use Rattle.exports.specs.declared.types.Cell.{Cell}
 use Rattle.exports.specs.declared.types.Shown.{Shown}
-use Rattle.exports.specs.declared.types.Next.{Next}
 use Rattle.exports.specs.declared.types.Header.{Header}
 use Rattle.exports.specs.declared.types.Page.{Page}
-use Rattle.exports.specs.Turns.{readingOf, keyOf, cursorOf, cellBy, headerBy, pageBy}
-use Rattle.exports.specs.Values.{oldShown, oldNext, fileShown, fileNext}
+use Rattle.exports.specs.Turns.{readingOf, keyOf, openingBy, openOf, cursorOf, cellBy, headerBy, pageBy}
+use Rattle.exports.specs.Batch.{Run, runFrom}
+use Rattle.exports.specs.Values.{oldShown, fileShown}
 
 -- THE DATABASE AND ITS PAGES
 
@@ -25,6 +30,20 @@ headerOf reading db = headerBy (header.headerOf (readingOf reading) db)
 -- where a table of `room` entries is lent
 abbrev pub pageOf : ℕ → ℕ → ℕ → List ℕ → Page
 pageOf reading number room db = pageBy (page.pageOf (keyOf reading number) room db)
+
+-- A PAGE THAT IS OPENED
+
+abbrev pub openingOf : ℕ → ℕ → List ℕ → Opening
+openingOf reading number db = openingBy (opening.openOf (keyOf reading number) db)
+
+abbrev pub guardedOpening : ℕ → List ℕ → Opening
+guardedOpening number db = openingBy (guarded.openOf number db)
+
+abbrev pub cellIn : Opened → ℕ → List ℕ → Cell
+cellIn opened i db = cellBy (foundIn (openOf opened) i db)
+
+abbrev pub guardedCellIn : Opened → ℕ → List ℕ → Cell
+guardedCellIn opened i db = cellBy (steps.foundIn (openOf opened) i db)
 
 -- ONE CELL
 
@@ -39,11 +58,11 @@ guardedCell number i db = cellBy (foundBy (guarded.locatedOf number i db))
 
 -- ITS VALUES
 
-abbrev pub oldNextOf : Along → List ℕ → Next
-oldNextOf a db = oldNext a (old.nextOf (cursorOf a) db)
+abbrev pub oldRun : Along → ℕ → List ℕ → Run
+oldRun a places db = runFrom places (cursorOf Old a) db
 
-abbrev pub fileNextOf : Along → List ℕ → Next
-fileNextOf a db = fileNext a (file.nextOf (cursorOf a) db)
+abbrev pub fileRun : Along → ℕ → List ℕ → Run
+fileRun a places db = runFrom places (cursorOf File a) db
 
 abbrev pub oldShownOf : ℕ → ℕ → ℕ → List ℕ → Shown
 oldShownOf number i k db = oldShown (old.shownOf number i k db)

@@ -12,6 +12,12 @@ use Rattle.columns.specs.declared.Cursor.{Cursor}
 use Rattle.header.specs.declared.Header as hd
 use Rattle.header.specs.declared.HeaderAnswer.{HeaderAnswer}
 use Rattle.header.specs.declared.HeaderAnswer.the-variants as ha
+use Rattle.cell.specs.declared.Kind.{Kind}
+use Rattle.cell.specs.declared.Kind.the-variants.{InteriorIndex, InteriorTable, LeafIndex, LeafTable}
+use Rattle.cell.specs.Kind.{kindByte}
+use Rattle.page.specs.declared.Open.{Open}
+use Rattle.page.specs.declared.OpenAnswer.{OpenAnswer}
+use Rattle.page.specs.declared.OpenAnswer.the-variants as op
 use Rattle.page.specs.declared.Head.{Head}
 use Rattle.page.specs.declared.PageAnswer.{PageAnswer}
 use Rattle.page.specs.declared.PageAnswer.the-variants as pa
@@ -20,7 +26,10 @@ use Rattle.page.specs.Entry.{rowNumber}
 use Rattle.row.specs.declared.FoundAnswer.{FoundAnswer}
 use Rattle.row.specs.declared.FoundAnswer.the-variants as fo
 use Rattle.exports.specs.declared.types.Refused.{Refused}
+use Rattle.exports.specs.declared.types.Opened.{Opened}
+use Rattle.exports.specs.declared.types.Opening.{Opening}
 use Rattle.exports.specs.declared.types.Along.{Along}
+use Rattle.exports.specs.declared.types.Filled.{Filled}
 use Rattle.exports.specs.declared.types.Cell.{Cell}
 use Rattle.exports.specs.declared.types.Value.{Value}
 use Rattle.exports.specs.declared.types.Header.{Header}
@@ -52,16 +61,56 @@ readingOf number = pick (eqb number 0) old file
 abbrev pub keyOf : ℕ → ℕ → ℕ
 keyOf reading number = pick (eqb reading 0) (oldKey number) (fileKey number)
 
+-- OPENED PAGES
+
+abbrev pub kindBy : ℕ → Kind
+kindBy byte = pick (eqb byte 2) InteriorIndex (pick (eqb byte 5) InteriorTable (pick (eqb byte 10) LeafIndex LeafTable))
+
+abbrev pub unopened : Opened
+unopened = record { reading = 0; kind = 0; end = 0; at = 0; size = 0; from = 0; cells = 0 }
+
+abbrev pub openedOf : Open → Opened
+openedOf o =
+    record {
+      reading = numberOf (o .reading);
+      kind = kindByte (o .kind);
+      end = o .end;
+      at = o .at;
+      size = o .size;
+      from = o .from;
+      cells = o .cells;
+    }
+
+abbrev pub openingBy : OpenAnswer → Opening
+openingBy (op.Refused reason) = record { refused = refusedBy (Plain reason); opened = unopened }
+openingBy (op.Shown o) = record { refused = accepted; opened = openedOf o }
+
+abbrev pub openOf : Opened → Open
+openOf o =
+    record {
+      reading = readingOf (o .reading);
+      at = o .at;
+      size = o .size;
+      end = o .end;
+      from = o .from;
+      kind = kindBy (o .kind);
+      cells = o .cells;
+    }
+
 -- CURSORS AND CELLS
 
 abbrev pub nowhere : Along
-nowhere = record { reading = 0; at = 0; stop = 0; value = 0; end = 0 }
+nowhere = record { at = 0; stop = 0; value = 0; end = 0 }
 
 abbrev pub alongOf : Cursor → Along
-alongOf c = record { reading = numberOf (c .reading); at = c .at; stop = c .stop; value = c .value; end = c .end }
+alongOf c = record { at = c .at; stop = c .stop; value = c .value; end = c .end }
 
-abbrev pub cursorOf : Along → Cursor
-cursorOf a = record { reading = readingOf (a .reading); at = a .at; stop = a .stop; value = a .value; end = a .end }
+abbrev pub filledOf : ℕ → Cursor → Filled
+filledOf n c = record { count = n; along = alongOf c }
+
+-- of the reading whose call it is handed to
+abbrev pub cursorOf : Reading → Along → Cursor
+cursorOf reading a = record { reading = reading; at = a .at; stop = a .stop; value = a .value; end = a .end }
 
 abbrev pub cellBy : FoundAnswer → Cell
 cellBy (fo.Refused refusal) = record { refused = refusedBy refusal; row = pos 0; columns = 0; along = nowhere }

@@ -7,15 +7,9 @@ use Rattle.row.specs.declared.old.ValueAnswer.{ValueAnswer as OldAnswer}
 use Rattle.row.specs.declared.old.ValueAnswer.the-variants as oa
 use Rattle.row.specs.declared.file.ValueAnswer.{ValueAnswer as FileAnswer}
 use Rattle.row.specs.declared.file.ValueAnswer.the-variants as fa
-use Rattle.row.specs.declared.old.NextAnswer.{NextAnswer as OldStep}
-use Rattle.row.specs.declared.old.NextAnswer.the-variants as on
-use Rattle.row.specs.declared.file.NextAnswer.{NextAnswer as FileStep}
-use Rattle.row.specs.declared.file.NextAnswer.the-variants as fn
-use Rattle.exports.specs.declared.types.Along.{Along}
 use Rattle.exports.specs.declared.types.Value.{Value}
 use Rattle.exports.specs.declared.types.Shown.{Shown}
-use Rattle.exports.specs.declared.types.Next.{Next}
-use Rattle.exports.specs.Turns.{accepted, refusedBy, alongOf, empty, integerOf, realOf, longOf}
+use Rattle.exports.specs.Turns.{accepted, refusedBy, empty, integerOf, realOf, longOf}
 
 -- OLD
 
@@ -33,11 +27,6 @@ abbrev pub oldShown : OldAnswer → Shown
 oldShown (oa.Refused refusal) = record { refused = refusedBy refusal; value = empty }
 oldShown (oa.Shown value) = record { refused = accepted; value = oldValue value }
 
--- a cursor that is done stays where it was
-abbrev pub oldNext : Along → OldStep → Next
-oldNext a on.Done = record { more = 0; value = empty; along = a }
-oldNext a (on.Column value next) = record { more = 1; value = oldValue value; along = alongOf next }
-
 -- FILE
 
 abbrev pub fileValue : FileValue → Value
@@ -50,7 +39,3 @@ fileValue (fv.Text at len) = longOf 3 at len
 abbrev pub fileShown : FileAnswer → Shown
 fileShown (fa.Refused refusal) = record { refused = refusedBy refusal; value = empty }
 fileShown (fa.Shown value) = record { refused = accepted; value = fileValue value }
-
-abbrev pub fileNext : Along → FileStep → Next
-fileNext a fn.Done = record { more = 0; value = empty; along = a }
-fileNext a (fn.Column value next) = record { more = 1; value = fileValue value; along = alongOf next }

@@ -4,19 +4,26 @@
 // that hold something, and an exported function answers no reference. Nothing is decided here. include/shorgavel.h
 // declares the calls. A slice is a pointer that is not null and a length, also where it is empty. Pages count from 0 in
 // the old reading and from 1 in the other two.
+mod batch;
+mod quick;
 mod turns;
 pub mod types;
 
 ghost use mathlib.Core.Path.{_≡_};
+ghost use Prim.Native.Nat.{_/_};
 ghost use lib.ListN.{length};
 ghost use Rattle.page.specs.Page.{entryAt, filled};
 ghost use Rattle.exports.specs.Turns.{keyOf};
-ghost use Rattle.exports.specs.Calls.{headerOf, pageOf, oldCell, fileCell, guardedCell, oldNextOf, fileNextOf, oldShownOf, fileShownOf, guardedShownOf};
+ghost use Rattle.exports.specs.Batch.{filledBy, over};
+ghost use Rattle.exports.specs.Calls.{headerOf, pageOf, openingOf, guardedOpening, cellIn, guardedCellIn, oldCell, fileCell, guardedCell, oldRun, fileRun, oldShownOf, fileShownOf, guardedShownOf};
 use page::Entry;
+use reading::Reading;
 use types::Along;
 use types::Cell;
+use types::Filled;
 use types::Header;
-use types::Next;
+use types::Opened;
+use types::Opening;
 use types::Page;
 use types::Shown;
 
@@ -62,6 +69,37 @@ pub extern "C" fn shorgavel_entry(db: &[u8], reading: u8, number: u32, i: usize)
     page::entry_at(db, turns::key_of(reading, number), i)
 }
 
+// A PAGE THAT IS OPENED, for its cells one after the other
+
+#[no_mangle]
+pub extern "C" fn shorgavel_open(db: &[u8], reading: u8, number: u32) -> Opening
+    ensures { λ r. ⌜ r ≡ openingOf reading number (now (db .entry)) ⌝ }
+{
+    turns::opening_by(page::open_page(db, turns::key_of(reading, number)))
+}
+
+// A table leaf, for the guarded reading.
+#[no_mangle]
+pub extern "C" fn shorgavel_guarded_open(db: &[u8], number: u32) -> Opening
+    ensures { λ r. ⌜ r ≡ guardedOpening number (now (db .entry)) ⌝ }
+{
+    turns::opening_by(guarded::open_page(db, number))
+}
+
+#[no_mangle]
+pub extern "C" fn shorgavel_cell_in(db: &[u8], opened: Opened, i: usize) -> Cell
+    ensures { λ r. ⌜ r ≡ cellIn opened i (now (db .entry)) ⌝ }
+{
+    turns::cell_by(row::found_in(db, turns::open_of(opened), i))
+}
+
+#[no_mangle]
+pub extern "C" fn shorgavel_guarded_cell_in(db: &[u8], opened: Opened, i: usize) -> Cell
+    ensures { λ r. ⌜ r ≡ guardedCellIn opened i (now (db .entry)) ⌝ }
+{
+    turns::cell_by(guarded::found_in(db, turns::open_of(opened), i))
+}
+
 // ONE CELL
 
 #[no_mangle]
@@ -85,21 +123,25 @@ pub extern "C" fn shorgavel_guarded_cell(db: &[u8], number: u32, i: usize) -> Ce
     turns::cell_by(guarded::found(db, number, i))
 }
 
-// THE VALUES OF A ROW, one after the other
+// THE VALUES OF A ROW
 
+// As many values from a cursor on as the table has places, and the cursor behind them. A place is a `types::Value`, five
+// words of 64 bits.
 #[no_mangle]
-pub extern "C" fn shorgavel_old_next(db: &[u8], along: Along) -> Next
-    ensures { λ r. ⌜ r ≡ oldNextOf along (now (db .entry)) ⌝ }
+pub extern "C" fn shorgavel_old_values(db: &[u8], along: Along, table: &mut [i64]) -> Filled
+    ensures { λ r. ⌜ (r ≡ filledBy (oldRun along (length (now (table .entry)) / 5) (now (db .entry))))
+        × (now (table .exit) ≡ over (oldRun along (length (now (table .entry)) / 5) (now (db .entry))) (now (table .entry))) ⌝ }
 {
-    turns::old_next(along, row::old::next(db, turns::cursor_of(along)))
+    batch::fill(db, turns::cursor_of(Reading::Old, along), table)
 }
 
 // A guarded row goes on with it too.
 #[no_mangle]
-pub extern "C" fn shorgavel_file_next(db: &[u8], along: Along) -> Next
-    ensures { λ r. ⌜ r ≡ fileNextOf along (now (db .entry)) ⌝ }
+pub extern "C" fn shorgavel_file_values(db: &[u8], along: Along, table: &mut [i64]) -> Filled
+    ensures { λ r. ⌜ (r ≡ filledBy (fileRun along (length (now (table .entry)) / 5) (now (db .entry))))
+        × (now (table .exit) ≡ over (fileRun along (length (now (table .entry)) / 5) (now (db .entry))) (now (table .entry))) ⌝ }
 {
-    turns::file_next(along, row::file::next(db, turns::cursor_of(along)))
+    batch::fill(db, turns::cursor_of(Reading::File, along), table)
 }
 
 // ONE VALUE: column `k` of cell `i`

@@ -1,19 +1,24 @@
 // The turns of types: from the readers' answers to structs of numbers, and from a cursor's numbers back.
 ghost use mathlib.Core.Path.{_≡_};
-ghost use Rattle.exports.specs.Turns.{accepted, refusedBy, numberOf, readingOf, keyOf, nowhere, alongOf, cursorOf, cellBy, empty, integerOf, realOf, longOf, noFields, headerBy, noHead, pageBy};
-ghost use Rattle.exports.specs.Values.{oldValue, oldShown, oldNext, fileValue, fileShown, fileNext};
+ghost use Rattle.exports.specs.Turns.{accepted, refusedBy, numberOf, readingOf, keyOf, kindBy, unopened, openedOf, openingBy, openOf, nowhere, alongOf, filledOf, cursorOf, cellBy, empty, integerOf, realOf, longOf, noFields, headerBy, noHead, pageBy};
+ghost use Rattle.exports.specs.Values.{oldValue, oldShown, fileValue, fileShown};
 use crate::types::Along;
 use crate::types::Cell;
+use crate::types::Filled;
 use crate::types::Header;
-use crate::types::Next;
+use crate::types::Opened;
+use crate::types::Opening;
 use crate::types::Page;
 use crate::types::Refused;
 use crate::types::Shown;
 use crate::types::Value;
 use answers::Refusal;
+use cell::Kind;
 use columns::Cursor;
 use header::HeaderAnswer;
 use page::Head;
+use page::Open;
+use page::OpenAnswer;
 use page::PageAnswer;
 use reading::Reading;
 use row::FoundAnswer;
@@ -78,6 +83,79 @@ pub fn key_of(reading: u8, number: u32) -> usize
     page::file(number)
 }
 
+// OPENED PAGES
+
+fn kind_of(byte: u8) -> Kind
+    ensures { λ r. ⌜ r ≡ kindBy byte ⌝ }
+{
+    match byte {
+        2 => Kind::InteriorIndex,
+        5 => Kind::InteriorTable,
+        10 => Kind::LeafIndex,
+        _ => Kind::LeafTable,
+    }
+}
+
+// What stands in place of a page that is refused.
+fn no_page() -> Opened
+    ensures { λ r. ⌜ r ≡ unopened ⌝ }
+{
+    Opened {
+        reading: 0,
+        kind: 0,
+        end: 0,
+        at: 0,
+        size: 0,
+        from: 0,
+        cells: 0,
+    }
+}
+
+fn opened_of(page: Open) -> Opened
+    ensures { λ r. ⌜ r ≡ openedOf page ⌝ }
+{
+    let reading = page.reading;
+    let kind = page.kind;
+    Opened {
+        reading: number_of(reading),
+        kind: cell::kind_byte(kind),
+        end: page.end,
+        at: page.at,
+        size: page.size,
+        from: page.from,
+        cells: page.cells,
+    }
+}
+
+pub fn opening_by(answer: OpenAnswer) -> Opening
+    ensures { λ r. ⌜ r ≡ openingBy answer ⌝ }
+{
+    match answer {
+        OpenAnswer::Refused(reason) => Opening {
+            refused: refused_by(Refusal::Plain(reason)),
+            opened: no_page(),
+        },
+        OpenAnswer::Shown(page) => Opening {
+            refused: no_refusal(),
+            opened: opened_of(page),
+        },
+    }
+}
+
+pub fn open_of(opened: Opened) -> Open
+    ensures { λ r. ⌜ r ≡ openOf opened ⌝ }
+{
+    Open {
+        reading: reading_of(opened.reading),
+        at: opened.at,
+        size: opened.size,
+        end: opened.end,
+        from: opened.from,
+        kind: kind_of(opened.kind),
+        cells: opened.cells,
+    }
+}
+
 // CURSORS AND CELLS
 
 // The cursor of a cell that is refused.
@@ -85,7 +163,6 @@ fn no_cursor() -> Along
     ensures { λ r. ⌜ r ≡ nowhere ⌝ }
 {
     Along {
-        reading: 0,
         at: 0,
         stop: 0,
         value: 0,
@@ -96,9 +173,7 @@ fn no_cursor() -> Along
 fn along_of(cursor: Cursor) -> Along
     ensures { λ r. ⌜ r ≡ alongOf cursor ⌝ }
 {
-    let reading = cursor.reading;
     Along {
-        reading: number_of(reading),
         at: cursor.at,
         stop: cursor.stop,
         value: cursor.value,
@@ -106,15 +181,25 @@ fn along_of(cursor: Cursor) -> Along
     }
 }
 
-pub fn cursor_of(along: Along) -> Cursor
-    ensures { λ r. ⌜ r ≡ cursorOf along ⌝ }
+pub fn cursor_of(reading: Reading, along: Along) -> Cursor
+    ensures { λ r. ⌜ r ≡ cursorOf reading along ⌝ }
 {
     Cursor {
-        reading: reading_of(along.reading),
+        reading,
         at: along.at,
         stop: along.stop,
         value: along.value,
         end: along.end,
+    }
+}
+
+// So many values, and the cursor behind them.
+pub fn filled_of(count: usize, cursor: Cursor) -> Filled
+    ensures { λ r. ⌜ r ≡ filledOf count cursor ⌝ }
+{
+    Filled {
+        count,
+        along: along_of(cursor),
     }
 }
 
@@ -147,7 +232,7 @@ pub fn cell_by(answer: FoundAnswer) -> Cell
 // VALUES
 
 // Null, and what stands where no value is shown.
-fn empty_value() -> Value
+pub fn empty_value() -> Value
     ensures { λ r. ⌜ r ≡ empty ⌝ }
 {
     Value {
@@ -160,7 +245,7 @@ fn empty_value() -> Value
     }
 }
 
-fn integer_of(width: u8, integer: i64) -> Value
+pub fn integer_of(width: u8, integer: i64) -> Value
     ensures { λ r. ⌜ r ≡ integerOf width integer ⌝ }
 {
     Value {
@@ -173,7 +258,7 @@ fn integer_of(width: u8, integer: i64) -> Value
     }
 }
 
-fn real_of(bits: u64) -> Value
+pub fn real_of(bits: u64) -> Value
     ensures { λ r. ⌜ r ≡ realOf bits ⌝ }
 {
     Value {
@@ -187,7 +272,7 @@ fn real_of(bits: u64) -> Value
 }
 
 // A text or a blob.
-fn long_of(kind: u8, at: usize, len: usize) -> Value
+pub fn long_of(kind: u8, at: usize, len: usize) -> Value
     ensures { λ r. ⌜ r ≡ longOf kind at len ⌝ }
 {
     Value {
@@ -230,23 +315,6 @@ pub fn old_shown(answer: row::old::ValueAnswer) -> Shown
     }
 }
 
-pub fn old_next(along: Along, answer: row::old::NextAnswer) -> Next
-    ensures { λ r. ⌜ r ≡ oldNext along answer ⌝ }
-{
-    match answer {
-        row::old::NextAnswer::Done => Next {
-            more: 0,
-            value: empty_value(),
-            along,
-        },
-        row::old::NextAnswer::Column { value, next } => Next {
-            more: 1,
-            value: old_value(value),
-            along: along_of(next),
-        },
-    }
-}
-
 fn file_value(value: values::file::Value) -> Value
     ensures { λ r. ⌜ r ≡ fileValue value ⌝ }
 {
@@ -270,23 +338,6 @@ pub fn file_shown(answer: row::file::ValueAnswer) -> Shown
         row::file::ValueAnswer::Shown(value) => Shown {
             refused: no_refusal(),
             value: file_value(value),
-        },
-    }
-}
-
-pub fn file_next(along: Along, answer: row::file::NextAnswer) -> Next
-    ensures { λ r. ⌜ r ≡ fileNext along answer ⌝ }
-{
-    match answer {
-        row::file::NextAnswer::Done => Next {
-            more: 0,
-            value: empty_value(),
-            along,
-        },
-        row::file::NextAnswer::Column { value, next } => Next {
-            more: 1,
-            value: file_value(value),
-            along: along_of(next),
         },
     }
 }

@@ -10,11 +10,29 @@ pub struct Refused {
     pub column: usize,
 }
 
-// A cursor along a row: `columns::Cursor`, its reading by number.
+// A page that is opened: `page::Open`, its reading and its kind by number.
 #[repr(C)]
-pub struct Along {
+pub struct Opened {
     // 0: old; any other number: file.
     pub reading: u8,
+    // The format's byte; any other number than 2, 5 and 10 is taken for 13, a table leaf.
+    pub kind: u8,
+    pub end: u32,
+    pub at: usize,
+    pub size: usize,
+    pub from: usize,
+    pub cells: usize,
+}
+
+#[repr(C)]
+pub struct Opening {
+    pub refused: Refused,
+    pub opened: Opened,
+}
+
+// A cursor along a row: `columns::Cursor` of the reading whose call it is handed to.
+#[repr(C)]
+pub struct Along {
     pub at: usize,
     pub stop: usize,
     pub value: usize,
@@ -51,11 +69,10 @@ pub struct Shown {
     pub value: Value,
 }
 
-// The value at a cursor and the cursor behind it. Where there is no value, `more` is 0 and the cursor as it was.
+// How many values a table was filled with, and the cursor behind the last.
 #[repr(C)]
-pub struct Next {
-    pub more: u8,
-    pub value: Value,
+pub struct Filled {
+    pub count: usize,
     pub along: Along,
 }
 

@@ -1,0 +1,42 @@
+-- The value of its reading, turned.
+use mathlib.Core.Path.{_∙_}
+use borrow.Author.Needs.{needs}
+use Rattle.exports.proofs.batch.value_at.Statement.{statement}
+use Rattle.exports.proofs.batch.value_at.Tie as tie
+
+enum-told : tie.Need-enum-told
+enum-told c = search needs
+
+from-requires : tie.Need-from-requires
+from-requires c κs = search needs
+
+old-value-requires : tie.Need-old-value-requires
+old-value-requires c κs = search needs
+
+enum-told-2 : tie.Need-enum-told-2
+enum-told-2 c = search needs
+
+from-requires-2 : tie.Need-from-requires-2
+from-requires-2 c κs = search needs
+
+file-value-requires : tie.Need-file-value-requires
+file-value-requires c κs = search needs
+
+returns : tie.Need-returns
+returns c = c .old-value .ensures ∙ rw (c .before .from .ensures, c .before .before .enum-told .given .1)
+
+returns-2 : tie.Need-returns-2
+returns-2 c = c .file-value .ensures ∙ rw (c .before .from2 .ensures, c .before .before .enum-told2 .given .1)
+
+pub value-at-spec : {M : Type 1} → statement M
+value-at-spec =
+    tie.close
+    (tie.spec
+    enum-told
+    from-requires
+    old-value-requires
+    enum-told-2
+    from-requires-2
+    file-value-requires
+    returns
+    returns-2)
