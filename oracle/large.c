@@ -57,13 +57,14 @@ static void print_value(shorgavel_value v) {
 
 /* The values along the cell's cursor. One too few or too many is told by a word that the original does not say. */
 static void print_along(shorgavel_cell c) {
+    shorgavel_value v;
     for (size_t i = 0; i < c.columns; i++) {
-        shorgavel_next n = shorgavel_old_next(db, length, c.along);
-        if (!n.more) printf(" missing");
-        if (n.more) print_value(n.value);
-        c.along = n.along;
+        shorgavel_filled f = shorgavel_old_values(db, length, c.along, &v, SHORGAVEL_WORDS(1));
+        if (f.count == 0) printf(" missing");
+        if (f.count != 0) print_value(v);
+        c.along = f.along;
     }
-    if (shorgavel_old_next(db, length, c.along).more) printf(" more");
+    if (shorgavel_old_values(db, length, c.along, &v, SHORGAVEL_WORDS(1)).count != 0) printf(" more");
     putchar('\n');
 }
 

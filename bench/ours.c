@@ -1,0 +1,118 @@
+/* ours old|file|guarded FILE PASSES: all values of all rows of all table leaves, PASSES times, by the calls for C.
+ *
+ * It prints what the last pass was shown; with no pass, it does everything but the work that is counted. */
+#include <stdlib.h>
+#include <string.h>
+
+#include "shorgavel.h"
+#include "shown.h"
+
+/* All columns of a row come by one call, up to so many; more places cost nothing where they are not filled. */
+enum { TABLE_LEAF = 13, PLACES = 64 };
+
+typedef enum { OLD, FILED, GUARDED } reading;
+
+/* Each reading has a pass of its own, with its calls in it, so that no row asks which reading it is. */
+#define FOR_EACH_READING static inline __attribute__((always_inline))
+
+static void fail(const char *why) {
+    fprintf(stderr, "ours: %s\n", why);
+    exit(2);
+}
+
+static reading named(const char *name) {
+    if (strcmp(name, "old") == 0) return OLD;
+    if (strcmp(name, "file") == 0) return FILED;
+    if (strcmp(name, "guarded") != 0) fail("the readings are old, file and guarded");
+    return GUARDED;
+}
+
+static uint8_t *load(const char *name, size_t *length) {
+    FILE *file = fopen(name, "rb");
+    if (!file || fseek(file, 0, SEEK_END) != 0) fail("the file cannot be opened");
+    *length = (size_t)ftell(file);
+    uint8_t *db = malloc(*length + 1);
+    rewind(file);
+    if (!db || fread(db, 1, *length, file) != *length) fail("the file cannot be read");
+    fclose(file);
+    return db;
+}
+
+static inline void show_value(shown *s, const uint8_t *db, const shorgavel_value *v) {
+    s->values++;
+    switch (v->kind) {
+    case SHORGAVEL_INTEGER: show_integer(s, v->integer); break;
+    case SHORGAVEL_REAL: show_real(s, v->bits); break;
+    case SHORGAVEL_TEXT:
+    case SHORGAVEL_BLOB: show_bytes(s, db + v->at, v->len); break;
+    }
+}
+
+/* The guarded reading has the file reading's header. */
+static inline uint8_t number_of(reading r) { return r == OLD ? SHORGAVEL_OLD : SHORGAVEL_FILE; }
+
+FOR_EACH_READING shorgavel_opening open_page(reading r, const uint8_t *db, size_t length, uint32_t page) {
+    if (r == GUARDED) return shorgavel_guarded_open(db, length, page);
+    return shorgavel_open(db, length, number_of(r), page);
+}
+
+FOR_EACH_READING shorgavel_cell cell_of(reading r, const uint8_t *db, size_t length, const shorgavel_opened *page,
+                                        size_t cell) {
+    if (r == GUARDED) return shorgavel_guarded_cell_in(db, length, *page, cell);
+    return shorgavel_cell_in(db, length, *page, cell);
+}
+
+FOR_EACH_READING shorgavel_filled fill(reading r, const uint8_t *db, size_t length, shorgavel_along along,
+                                       shorgavel_value *table) {
+    if (r == OLD) return shorgavel_old_values(db, length, along, table, SHORGAVEL_WORDS(PLACES));
+    return shorgavel_file_values(db, length, along, table, SHORGAVEL_WORDS(PLACES));
+}
+
+/* A row, table by table, until all of its columns are shown. */
+FOR_EACH_READING void show_cell(reading r, shown *s, const uint8_t *db, size_t length, const shorgavel_cell *cell) {
+    shorgavel_value table[PLACES];
+    shorgavel_along along = cell->along;
+    show_row(s, cell->row);
+    for (size_t left = cell->columns; left > 0;) {
+        shorgavel_filled f = fill(r, db, length, along, table);
+        for (size_t i = 0; i < f.count; i++) show_value(s, db, &table[i]);
+        along = f.along;
+        left -= f.count;
+    }
+}
+
+FOR_EACH_READING shown pass(reading r, const uint8_t *db, size_t length, uint32_t pages) {
+    uint32_t first = r == OLD ? 0 : 1;
+    shown s = {0, 0, 0, 0};
+    for (uint32_t page = first; page < first + pages; page++) {
+        shorgavel_opening o = open_page(r, db, length, page);
+        if (o.refused.number != 0 || o.opened.kind != TABLE_LEAF) continue;
+        for (size_t i = 0; i < o.opened.cells; i++) {
+            shorgavel_cell cell = cell_of(r, db, length, &o.opened, i);
+            if (cell.refused.number == 0) show_cell(r, &s, db, length, &cell);
+        }
+    }
+    return s;
+}
+
+static shown pass_of(reading r, const uint8_t *db, size_t length, uint32_t pages) {
+    switch (r) {
+    case OLD: return pass(OLD, db, length, pages);
+    case FILED: return pass(FILED, db, length, pages);
+    default: return pass(GUARDED, db, length, pages);
+    }
+}
+
+int main(int count, char **words) {
+    if (count != 4) fail("the words are a reading, a file and a number of passes");
+    reading r = named(words[1]);
+    size_t length;
+    uint8_t *db = load(words[2], &length);
+    shorgavel_header_answer h = shorgavel_header(db, length, number_of(r));
+    if (h.refused.number != 0) fail("the header is refused");
+    shown s = {0, 0, 0, 0};
+    for (int left = atoi(words[3]); left > 0; left--) s = pass_of(r, db, length, (uint32_t)(length / h.fields.page_size));
+    print_shown(s);
+    free(db);
+    return 0;
+}

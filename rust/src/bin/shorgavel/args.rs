@@ -1,0 +1,119 @@
+//! The words of the command.
+
+use crate::failure::Failure;
+use shorgavel::Reading;
+use std::ffi::{OsStr, OsString};
+
+const HELP: &str = "\
+Shows the SQLite file of a battery gauge in three readings: old is what the tablets' reader shows, faults and all; file
+is what the gauge wrote; guarded shows a row only where the two agree.
+
+Usage: shorgavel COMMAND FILE
+
+Commands:
+  header FILE    the fields of the database header, in the old and the file reading
+  page FILE N    the head of page N and the entries of its cells
+  rows FILE      every row of every table leaf, in the three readings
+  compare FILE   only the rows in which the readings part, and why
+  sheet FILE     one HTML page for a browser, with the three readings side by side
+
+Options:
+  --reading R    old, file or guarded: `rows` shows that reading alone, `page` shows it instead of file
+  --parting      `sheet` shows only the rows in which the readings part
+  -h, --help     these words
+  -V, --version  the version
+
+FILE is read whole, up to 1,073,741,824 bytes; - is standard input. All is shown on standard output. Pages count from 1,
+and from 0 in `page` with --reading old; cells and columns count from 0.
+
+Exit status:
+  0  done; for `compare`, no row parts
+  1  the database or the page is refused; for `compare`, a row parts
+  2  the words of the command are wrong
+  3  a file cannot be read or written
+";
+
+/// What is asked for.
+pub enum Order {
+    Say(String),
+    Header(OsString),
+    Page(OsString, u32, Reading),
+    Rows(OsString, Vec<Reading>),
+    Compare(OsString),
+    Sheet(OsString, Rows),
+}
+
+/// Which rows a sheet shows.
+#[derive(Clone, Copy, PartialEq)]
+pub enum Rows {
+    All,
+    Parting,
+}
+
+/// The words by what they are: those that start with a dash are options, but for the dash alone.
+#[derive(Default)]
+struct Words {
+    plain: Vec<OsString>,
+    reading: Option<Reading>,
+    parting: bool,
+}
+
+pub fn parse(args: impl Iterator<Item = OsString>) -> Result<Order, Failure> {
+    let mut words = Words::default();
+    let mut args = args;
+    while let Some(arg) = args.next() {
+        match arg.to_str() {
+            Some("-h" | "--help") => return Ok(Order::Say(HELP.to_string())),
+            Some("-V" | "--version") => return Ok(Order::Say(format!("shorgavel {}\n", env!("CARGO_PKG_VERSION")))),
+            Some("--parting") => words.parting = true,
+            Some("--reading") => words.reading = Some(reading(args.next())?),
+            Some(option) if option.len() > 1 && option.starts_with('-') => {
+                return Err(wrong(format!("there is no option {option}")));
+            }
+            _ => words.plain.push(arg),
+        }
+    }
+    order(words)
+}
+
+fn order(words: Words) -> Result<Order, Failure> {
+    let mut plain = words.plain.into_iter();
+    let Some(command) = plain.next() else {
+        return Err(wrong("a command is missing".to_string()));
+    };
+    let name = command.to_string_lossy().into_owned();
+    let mut next = |what: &str| plain.next().ok_or_else(|| wrong(format!("{name}: {what} is missing")));
+    let order = match name.as_str() {
+        "header" => Order::Header(next("FILE")?),
+        "page" => Order::Page(next("FILE")?, number(&next("N")?)?, words.reading.unwrap_or(Reading::File)),
+        "rows" => Order::Rows(next("FILE")?, words.reading.map_or(Reading::ALL.to_vec(), |one| vec![one])),
+        "compare" => Order::Compare(next("FILE")?),
+        "sheet" => Order::Sheet(next("FILE")?, if words.parting { Rows::Parting } else { Rows::All }),
+        _ => return Err(wrong(format!("there is no command {name}"))),
+    };
+    if let Some(more) = plain.next() {
+        return Err(wrong(format!("{name}: {} is one word too many", more.to_string_lossy())));
+    }
+    if words.reading.is_some() && !matches!(order, Order::Page(..) | Order::Rows(..)) {
+        return Err(wrong(format!("{name} takes no --reading")));
+    }
+    if words.parting && !matches!(order, Order::Sheet(..)) {
+        return Err(wrong(format!("{name} takes no --parting")));
+    }
+    Ok(order)
+}
+
+fn reading(word: Option<OsString>) -> Result<Reading, Failure> {
+    let named = |reading: &Reading| word.as_deref() == Some(OsStr::new(reading.name()));
+    let found = Reading::ALL.into_iter().find(named);
+    found.ok_or_else(|| wrong("--reading takes old, file or guarded".to_string()))
+}
+
+fn number(word: &OsStr) -> Result<u32, Failure> {
+    let parsed = word.to_str().and_then(|digits| digits.parse().ok());
+    parsed.ok_or_else(|| wrong(format!("page: {} is no page number", word.to_string_lossy())))
+}
+
+fn wrong(why: String) -> Failure {
+    Failure::Usage(why)
+}

@@ -1,0 +1,110 @@
+//! A table leaf in the three readings, for `compare` and `sheet`.
+
+use shorgavel::{Cell, Gauge, Page, Reading, Refusal};
+
+pub struct Leaf<'a> {
+    old: Page<'a>,
+    file: Page<'a>,
+    guarded: Page<'a>,
+}
+
+/// A cell in the three readings.
+pub struct Trio<'a> {
+    pub page: u32,
+    pub cell: usize,
+    pub old: Result<Cell<'a>, Refusal>,
+    pub file: Result<Cell<'a>, Refusal>,
+    pub guarded: Result<Cell<'a>, Refusal>,
+}
+
+/// How the readings stand to each other on a cell.
+pub enum Standing<'a> {
+    /// Old and file show the same. It is a theorem that they do wherever guarded shows something.
+    Agree,
+    /// Old and file refuse the cell.
+    Refused,
+    /// Old and file show the cell, and guarded refuses it for a mark.
+    Differ(Cell<'a>, Cell<'a>, Refusal),
+    /// Old refuses what file shows, and guarded refuses it for a mark.
+    OldRefuses(Refusal, Cell<'a>, Refusal),
+    /// File refuses what old shows.
+    FileRefuses(Cell<'a>, Refusal),
+}
+
+/// All table leaves: each reading goes through the same pages.
+pub fn leaves<'a>(gauge: &Gauge<'a>) -> Result<impl Iterator<Item = Leaf<'a>>, Refusal> {
+    let both = gauge.leaves(Reading::Old)?.zip(gauge.leaves(Reading::File)?);
+    let all = both.zip(gauge.leaves(Reading::Guarded)?);
+    Ok(all.map(|((old, file), guarded)| Leaf { old, file, guarded }))
+}
+
+impl<'a> Leaf<'a> {
+    /// The page's number, from 1 on.
+    pub fn number(&self) -> u32 {
+        self.file.number()
+    }
+
+    pub fn len(&self) -> usize {
+        self.file.len()
+    }
+
+    fn trio(&self, cell: usize) -> Trio<'a> {
+        Trio {
+            page: self.number(),
+            cell,
+            old: self.old.cell(cell),
+            file: self.file.cell(cell),
+            guarded: self.guarded.cell(cell),
+        }
+    }
+
+    pub fn trios(&self) -> impl Iterator<Item = Trio<'a>> + '_ {
+        (0..self.len()).map(|cell| self.trio(cell))
+    }
+
+    /// The cells on which guarded shows nothing. Where it does, it alone tells that all agree, so most rows are read once.
+    pub fn doubtful(&self) -> impl Iterator<Item = Trio<'a>> + '_ {
+        let doubted = (0..self.len()).filter(|&cell| self.guarded.cell(cell).is_err());
+        doubted.map(|cell| self.trio(cell))
+    }
+}
+
+impl<'a> Trio<'a> {
+    pub fn standing(&self) -> Standing<'a> {
+        match (self.old, self.file, self.guarded) {
+            (_, _, Ok(_)) => Standing::Agree,
+            (Err(_), Err(_), _) => Standing::Refused,
+            (Ok(old), Ok(file), Err(guarded)) => Standing::Differ(old, file, guarded),
+            (Err(old), Ok(file), Err(guarded)) => Standing::OldRefuses(old, file, guarded),
+            (Ok(old), Err(file), _) => Standing::FileRefuses(old, file),
+        }
+    }
+
+    /// Whether the readings part.
+    pub fn parts(&self) -> bool {
+        !matches!(self.standing(), Standing::Agree | Standing::Refused)
+    }
+}
+
+/// How many cells there are, and how they stand.
+#[derive(Default)]
+pub struct Count {
+    pub cells: usize,
+    pub parted: usize,
+    pub refused: usize,
+}
+
+impl Count {
+    /// A leaf's cells are counted; those that part or are refused come one by one.
+    pub fn leaf(&mut self, leaf: &Leaf<'_>) {
+        self.cells += leaf.len();
+    }
+
+    pub fn doubted(&mut self, trio: &Trio<'_>) {
+        if trio.parts() {
+            self.parted += 1;
+        } else {
+            self.refused += 1;
+        }
+    }
+}

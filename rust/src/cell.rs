@@ -1,0 +1,92 @@
+use crate::bytes::Bytes;
+use crate::calls;
+use crate::{Page, Reading, Refusal, Value, Values, Width};
+use std::iter::FusedIterator;
+use std::ops::Range;
+
+/// A cell of a page, checked by itself: its row number and the values of its record.
+#[derive(Clone, Copy, Debug)]
+pub struct Cell<'a> {
+    bytes: Bytes<'a>,
+    old: bool,
+    rowid: i64,
+    columns: usize,
+    along: calls::Along,
+}
+
+impl<'a> Cell<'a> {
+    #[inline]
+    pub(crate) fn of(bytes: Bytes<'a>, reading: Reading, answer: &calls::Cell) -> Result<Cell<'a>, Refusal> {
+        Refusal::check(answer.refused)?;
+        Ok(Cell {
+            bytes,
+            old: reading == Reading::Old,
+            rowid: answer.row,
+            columns: answer.columns,
+            along: answer.along,
+        })
+    }
+
+    /// The row number of a table leaf's cell, the key of an interior table's.
+    ///
+    /// Of an index cell, what the old reading takes for one, and 0 in the file reading.
+    #[inline]
+    pub fn rowid(&self) -> i64 {
+        self.rowid
+    }
+
+    /// How many columns the record has.
+    #[inline]
+    pub fn columns(&self) -> usize {
+        self.columns
+    }
+
+    /// The values, one after the other.
+    #[inline]
+    pub fn values(&self) -> Values<'a> {
+        Values::of(self.bytes, self.old, self.columns, self.along)
+    }
+
+    /// The value of one column, if there is such a column. The values before it are passed over.
+    pub fn value(&self, column: usize) -> Option<Value<'a>> {
+        self.values().nth(column)
+    }
+
+    /// What the original calls the integers' types, column by column: none where a value is not an integer, and none in
+    /// the readings that have no widths, file and guarded.
+    pub fn widths(&self) -> impl Iterator<Item = Option<Width>> + 'a {
+        let mut values = self.values();
+        (0..self.columns).map(move |_| values.step().and_then(|value| Width::of(value.width)))
+    }
+}
+
+/// The cells of a page, each shown or refused by itself.
+#[derive(Clone, Debug)]
+pub struct Cells<'a> {
+    page: Page<'a>,
+    range: Range<usize>,
+}
+
+impl<'a> Cells<'a> {
+    pub(crate) fn of(page: Page<'a>) -> Cells<'a> {
+        Cells { page, range: 0..page.len() }
+    }
+}
+
+impl<'a> Iterator for Cells<'a> {
+    type Item = Result<Cell<'a>, Refusal>;
+
+    #[inline]
+    fn next(&mut self) -> Option<Result<Cell<'a>, Refusal>> {
+        let cell = self.range.next()?;
+        Some(self.page.cell(cell))
+    }
+
+    #[inline]
+    fn size_hint(&self) -> (usize, Option<usize>) {
+        self.range.size_hint()
+    }
+}
+
+impl ExactSizeIterator for Cells<'_> {}
+impl FusedIterator for Cells<'_> {}

@@ -1,0 +1,73 @@
+use crate::bytes::Bytes;
+use crate::calls;
+use crate::{DbHeader, Leaves, Page, Reading, Refusal, Rows, Value};
+use std::ops::Range;
+
+/// A gauge's database: the bytes of its file, which stay the caller's.
+///
+/// Nothing is read until it is asked for, and nothing is kept but the reference.
+#[derive(Clone, Copy, Debug)]
+pub struct Gauge<'a> {
+    bytes: Bytes<'a>,
+}
+
+impl<'a> Gauge<'a> {
+    /// The most bytes that are read; a longer database is refused with 22.
+    pub const LIMIT: u64 = 1_073_741_824;
+
+    /// A database of these bytes. What they are is checked by the calls.
+    pub fn new(bytes: &'a [u8]) -> Gauge<'a> {
+        Gauge { bytes: Bytes(bytes) }
+    }
+
+    /// Whether a database of that many bytes is read. It can be asked before the bytes are there.
+    pub fn within_limit(length: u64) -> Result<(), Refusal> {
+        if length <= Self::LIMIT {
+            Ok(())
+        } else {
+            Err(Refusal::over_limit())
+        }
+    }
+
+    /// The header's fields, or the first check that fails. The guarded reading has the file reading's.
+    pub fn header(&self, reading: Reading) -> Result<DbHeader, Refusal> {
+        let answer = calls::header(self.bytes.0, reading.number());
+        Refusal::check(answer.refused)?;
+        Ok(DbHeader::of(&answer.fields))
+    }
+
+    /// The numbers of the pages, as the reading counts: as many as whole pages fit in the bytes.
+    pub fn pages(&self, reading: Reading) -> Result<Range<u32>, Refusal> {
+        let size = self.header(reading)?.page_size as usize;
+        // The old reading takes a page size of 0 too. A gigabyte has no more pages than a u32 counts.
+        let count = self.bytes.0.len().checked_div(size).unwrap_or(0) as u32;
+        let first = reading.first_page();
+        Ok(first..first + count)
+    }
+
+    /// Opens a page by its number, as the reading counts. The guarded reading opens table leaves only.
+    pub fn get_page(&self, reading: Reading, pageno: u32) -> Result<Page<'a>, Refusal> {
+        Page::open(self.bytes, reading, pageno)
+    }
+
+    /// The table leaves in the order of the file: the pages of kind 13 that the file reading opens.
+    pub fn leaves(&self, reading: Reading) -> Result<Leaves<'a>, Refusal> {
+        Ok(Leaves::of(*self, reading, self.pages(Reading::File)?))
+    }
+
+    /// Every cell of every table leaf, in the order of the file: what the program `rows` lists.
+    pub fn rows(&self, reading: Reading) -> Result<Rows<'a>, Refusal> {
+        Ok(Rows::of(self.leaves(reading)?))
+    }
+
+    /// One value: column `column` of cell `cell`. Where several are asked for, a [`Cell`](crate::Cell) is quicker.
+    pub fn value(&self, reading: Reading, pageno: u32, cell: usize, column: usize) -> Result<Value<'a>, Refusal> {
+        let shown = match reading {
+            Reading::Old => calls::old_value(self.bytes.0, pageno, cell, column),
+            Reading::File => calls::file_value(self.bytes.0, pageno, cell, column),
+            Reading::Guarded => calls::guarded_value(self.bytes.0, pageno, cell, column),
+        };
+        Refusal::check(shown.refused)?;
+        Ok(Value::of(self.bytes.0, &shown.value))
+    }
+}

@@ -1,0 +1,76 @@
+//! Reads the SQLite files that a battery gauge on forklifts writes, with proof.
+//!
+//! There are three readings. [`Reading::Old`] is what the tablets' reader shows, faults and all; [`Reading::File`] is what
+//! the file format says, what the gauge wrote; [`Reading::Guarded`] shows a row only where the two agree, and that they do
+//! is a theorem. The readers are proved to answer for every input; this package calls them and adds Rust's types.
+//!
+//! ```
+//! use shorgavel::{Gauge, Reading, Value};
+//!
+//! // A page of one row: an idle load, a stored 1 (type 9).
+//! let mut bytes = vec![0; 512];
+//! bytes[..16].copy_from_slice(b"SQLite format 3\0");
+//! bytes[16..24].copy_from_slice(&[2, 0, 1, 1, 0, 64, 32, 32]);
+//! bytes[59] = 1;
+//! bytes[100..110].copy_from_slice(&[13, 0, 0, 0, 1, 1, 252, 0, 1, 252]);
+//! bytes[508..].copy_from_slice(&[2, 1, 2, 9]);
+//!
+//! let gauge = Gauge::new(&bytes);
+//! for row in gauge.rows(Reading::File)? {
+//!     let cell = row.shown?;
+//!     println!("row {}: {:?}", cell.rowid(), cell.values().collect::<Vec<_>>());
+//!     assert_eq!(cell.value(0), Some(Value::Integer(1)));
+//! }
+//!
+//! // The old reader shows 0 there, so the guarded reading refuses the row.
+//! assert_eq!(gauge.value(Reading::Old, 0, 0, 0)?, Value::Integer(0));
+//! let refusal = gauge.value(Reading::Guarded, 1, 0, 0).unwrap_err();
+//! assert_eq!(refusal.number(), 21);
+//! println!("{refusal}");
+//! # Ok::<(), shorgavel::Refusal>(())
+//! ```
+//!
+//! Pages count from 0 in the old reading, as in the original's `get_page`, and from 1 in the other two; cells and columns
+//! count from 0. [`moving`] shows how to come over from sqlite-parser-nom.
+
+#![deny(unsafe_code)]
+#![warn(missing_docs)]
+
+mod bytes;
+#[allow(unsafe_code)]
+mod calls;
+mod cell;
+mod encoding;
+mod entry;
+mod gauge;
+mod header;
+mod kind;
+mod mark;
+mod page;
+mod reading;
+mod refusal;
+mod rows;
+mod value;
+mod values;
+
+pub use cell::{Cell, Cells};
+pub use encoding::TextEncoding;
+pub use entry::{Entry, Head};
+pub use gauge::Gauge;
+pub use header::DbHeader;
+pub use kind::Kind;
+pub use mark::Mark;
+pub use page::Page;
+pub use reading::Reading;
+pub use refusal::Refusal;
+pub use rows::{Leaves, Row, Rows};
+pub use value::{Value, Width};
+pub use values::Values;
+
+#[doc = include_str!("../docs/MOVING.md")]
+pub mod moving {}
+
+/// The examples of the README are compiled with the tests.
+#[cfg(doctest)]
+#[doc = include_str!("../README.md")]
+mod readme {}

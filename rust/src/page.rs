@@ -1,0 +1,80 @@
+use crate::bytes::Bytes;
+use crate::calls;
+use crate::{Cell, Cells, Entry, Head, Kind, Reading, Refusal};
+
+/// A page that is opened: its kind and cell count are known, its cells are looked at one by one.
+#[derive(Clone, Copy, Debug)]
+pub struct Page<'a> {
+    bytes: Bytes<'a>,
+    reading: Reading,
+    number: u32,
+    opened: calls::Opened,
+}
+
+impl<'a> Page<'a> {
+    pub(crate) fn open(bytes: Bytes<'a>, reading: Reading, number: u32) -> Result<Page<'a>, Refusal> {
+        let opening = match reading {
+            Reading::Guarded => calls::guarded_open(bytes.0, number),
+            Reading::Old | Reading::File => calls::open(bytes.0, reading.number(), number),
+        };
+        Refusal::check(opening.refused)?;
+        Ok(Page { bytes, reading, number, opened: opening.opened })
+    }
+
+    /// The page's number, as its reading counts.
+    pub fn number(&self) -> u32 {
+        self.number
+    }
+
+    /// The reading in which it was opened.
+    pub fn reading(&self) -> Reading {
+        self.reading
+    }
+
+    /// The page's kind.
+    pub fn kind(&self) -> Kind {
+        Kind::of(self.opened.kind)
+    }
+
+    /// How many cells it has.
+    pub fn len(&self) -> usize {
+        self.opened.cells
+    }
+
+    /// Whether it has no cell.
+    pub fn is_empty(&self) -> bool {
+        self.len() == 0
+    }
+
+    /// A cell, whatever the others are like. Cells count from 0.
+    #[inline]
+    pub fn cell(&self, cell: usize) -> Result<Cell<'a>, Refusal> {
+        let answer = match self.reading {
+            Reading::Guarded => calls::guarded_cell_in(self.bytes.0, self.opened, cell),
+            Reading::Old | Reading::File => calls::cell_in(self.bytes.0, self.opened, cell),
+        };
+        Cell::of(self.bytes, self.reading, &answer)
+    }
+
+    /// All cells, each shown or refused by itself.
+    pub fn cells(&self) -> Cells<'a> {
+        Cells::of(*self)
+    }
+
+    /// The page's head if every one of its cells is accepted, else the first refusal: what the original's page is.
+    ///
+    /// The guarded reading has no such call: of its pages the file reading's head is answered.
+    pub fn head(&self) -> Result<Head, Refusal> {
+        let answer = calls::page(self.bytes.0, self.reading.number(), self.number);
+        Refusal::check(answer.refused)?;
+        Ok(Head::of(&answer.head))
+    }
+
+    /// The entries of all cells if every one is accepted, else the first refusal; of guarded pages, as for the head.
+    pub fn entries(&self) -> Result<Vec<Entry>, Refusal> {
+        let mut table = vec![calls::CellEntry::default(); self.len()];
+        let answer = calls::entries(self.bytes.0, self.reading.number(), self.number, &mut table);
+        Refusal::check(answer.refused)?;
+        Ok(table.iter().map(|entry| Entry::of(self.reading, entry)).collect())
+    }
+}

@@ -1,0 +1,48 @@
+use std::fmt;
+
+/// Which of the three readings shows a database.
+#[derive(Clone, Copy, Debug, PartialEq, Eq, Hash)]
+pub enum Reading {
+    /// What the tablets' reader shows, faults and all. Its pages count from 0.
+    Old,
+    /// What the file format says: what the gauge wrote. Its pages count from 1.
+    File,
+    /// A row of a table leaf, only where the two agree. Its pages count from 1.
+    Guarded,
+}
+
+impl Reading {
+    /// The three, in the order in which they are listed everywhere.
+    pub const ALL: [Reading; 3] = [Reading::Old, Reading::File, Reading::Guarded];
+
+    /// The name: `old`, `file` or `guarded`.
+    pub fn name(self) -> &'static str {
+        match self {
+            Reading::Old => "old",
+            Reading::File => "file",
+            Reading::Guarded => "guarded",
+        }
+    }
+
+    /// The number of the first page.
+    pub fn first_page(self) -> u32 {
+        match self {
+            Reading::Old => 0,
+            Reading::File | Reading::Guarded => 1,
+        }
+    }
+
+    /// The number by which calls are told a reading; what guarded shows of headers and pages is the file reading's.
+    pub(crate) fn number(self) -> u8 {
+        match self {
+            Reading::Old => 0,
+            Reading::File | Reading::Guarded => 1,
+        }
+    }
+}
+
+impl fmt::Display for Reading {
+    fn fmt(&self, f: &mut fmt::Formatter<'_>) -> fmt::Result {
+        f.write_str(self.name())
+    }
+}

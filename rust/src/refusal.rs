@@ -1,0 +1,137 @@
+use crate::calls;
+use crate::Mark;
+use std::error::Error;
+use std::fmt;
+
+/// Why nothing is shown: a number, the place where it applies, and the meaning.
+///
+/// The rules are in `docs/READINGS.md`. Every call answers either what it is asked for or the first check that fails.
+#[derive(Clone, Copy, Debug, PartialEq, Eq, Hash)]
+pub struct Refusal {
+    // Words, though bytes would do: a row is a result, and one that is words alone is moved with less work.
+    number: usize,
+    mark: usize,
+    cell: usize,
+    column: usize,
+}
+
+/// Name and meaning of each number, from 1 on.
+const REASONS: [(&str, &str); 22] = [
+    ("OpeningDiffers", "the 16 opening bytes of a database are not there"),
+    ("HeaderCut", "there are fewer than 100 bytes"),
+    ("EncodingUnknown", "the text encoding is not 1, 2 or 3"),
+    ("PageSizeUnfit", "the page size is not a power of two from 512 to 65,536"),
+    ("UsableTooSmall", "the usable size of a page is below 480"),
+    ("ReadVersionAbove", "the read version is above 2"),
+    ("FractionsDiffer", "the payload fractions are not 64, 32, 32"),
+    ("PageAbsent", "the page is not wholly in the bytes"),
+    ("RootTooSmall", "the page size is under 100"),
+    ("KindUnfit", "the page is of another kind, or of none"),
+    ("PointersPassEnd", "the page's header or pointers pass its end"),
+    ("PointerOutside", "the cell's pointer leads outside of the cells"),
+    ("CellCut", "the cell is cut short"),
+    ("HeaderUnfit", "the record's header does not fit"),
+    ("TypeReserved", "the type is 10 or 11, which are reserved"),
+    ("ValueUnfit", "the value passes the end, or bytes are left over behind the last"),
+    ("ClosingCut", "the varint behind the index record has no end"),
+    ("PayloadSpills", "the payload spills to overflow pages, which are not read"),
+    ("TableTooShort", "the lent table is shorter than the cell count"),
+    ("NoSuchCellOrColumn", "there is no such cell, or no such column in it"),
+    ("Marked", "old and file need not agree"),
+    ("OverLimit", "there are over 1,073,741,824 bytes"),
+];
+
+impl Refusal {
+    /// What a call answers, where it refuses.
+    #[inline]
+    pub(crate) fn check(refused: calls::Refused) -> Result<(), Refusal> {
+        if refused.number == 0 {
+            return Ok(());
+        }
+        let (number, mark) = (usize::from(refused.number), usize::from(refused.mark));
+        Err(Refusal { number, mark, cell: refused.cell, column: refused.column })
+    }
+
+    /// The refusal of a database that is too long, 22.
+    pub(crate) fn over_limit() -> Refusal {
+        Refusal { number: 22, mark: 0, cell: 0, column: 0 }
+    }
+
+    /// The number, from 1 to 22.
+    pub fn number(self) -> u8 {
+        self.number as u8
+    }
+
+    fn reason(self) -> (&'static str, &'static str) {
+        REASONS.get(self.number.wrapping_sub(1)).copied().unwrap_or(("Unknown", "no meaning is known"))
+    }
+
+    /// The number's name.
+    pub fn name(self) -> &'static str {
+        self.reason().0
+    }
+
+    /// What the number means, in words.
+    pub fn meaning(self) -> &'static str {
+        self.reason().1
+    }
+
+    /// The cell that is refused, where one is: for 12 to 18 and 21.
+    pub fn cell(self) -> Option<usize> {
+        matches!(self.number, 12..=18 | 21).then_some(self.cell)
+    }
+
+    /// The column that is refused, where one is: for 15 and 16.
+    pub fn column(self) -> Option<usize> {
+        matches!(self.number, 15 | 16).then_some(self.column)
+    }
+
+    /// The mark for which a row is refused, where it is one: for 21.
+    pub fn mark(self) -> Option<Mark> {
+        Mark::of(self.mark as u8)
+    }
+}
+
+/// For example `refused 15 (TypeReserved) in cell 1, column 0: the type is 10 or 11, which are reserved`.
+impl fmt::Display for Refusal {
+    fn fmt(&self, f: &mut fmt::Formatter<'_>) -> fmt::Result {
+        write!(f, "refused {} ({})", self.number, self.name())?;
+        if let Some(cell) = self.cell() {
+            write!(f, " in cell {cell}")?;
+        }
+        if let Some(column) = self.column() {
+            write!(f, ", column {column}")?;
+        }
+        write!(f, ": {}", self.meaning())?;
+        match self.mark() {
+            Some(mark) => write!(f, ": {mark}"),
+            None => Ok(()),
+        }
+    }
+}
+
+impl Error for Refusal {}
+
+#[cfg(test)]
+mod tests {
+    use super::*;
+
+    /// The numbers and names are those of the table in docs/READINGS.md, which has two names for 20.
+    #[test]
+    fn names_are_the_documented_ones() {
+        let rows = include_str!("../../docs/READINGS.md").lines().filter_map(|line| line.strip_prefix("| "));
+        let mut seen = 0;
+        for row in rows {
+            let mut fields = row.split(" | ");
+            let (Some(Ok(number)), Some(name)) = (fields.next().map(str::parse), fields.next()) else {
+                continue;
+            };
+            let refusal = Refusal { number, mark: 0, cell: 0, column: 0 };
+            if number != 20 {
+                assert_eq!(format!("`{}`", refusal.name()), name);
+            }
+            seen += 1;
+        }
+        assert_eq!(seen, 23);
+    }
+}

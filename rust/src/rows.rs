@@ -1,0 +1,100 @@
+use crate::{Cell, Cells, Gauge, Kind, Page, Reading, Refusal};
+use std::iter::FusedIterator;
+use std::ops::Range;
+
+/// The table leaves of a database, opened in one reading.
+#[derive(Clone, Debug)]
+pub struct Leaves<'a> {
+    gauge: Gauge<'a>,
+    reading: Reading,
+    pages: Range<u32>,
+}
+
+impl<'a> Leaves<'a> {
+    /// `pages` as the file reading counts.
+    pub(crate) fn of(gauge: Gauge<'a>, reading: Reading, pages: Range<u32>) -> Leaves<'a> {
+        Leaves { gauge, reading, pages }
+    }
+
+    /// The page if the file reading opens it as a table leaf. Then the other two open it as well, and the guarded reading
+    /// opens no other page.
+    fn leaf(&self, pageno: u32) -> Option<Page<'a>> {
+        if self.reading == Reading::Guarded {
+            return self.gauge.get_page(Reading::Guarded, pageno).ok();
+        }
+        let page = self.gauge.get_page(Reading::File, pageno).ok()?;
+        if page.kind() != Kind::LeafTable {
+            return None;
+        }
+        if self.reading == Reading::Old {
+            return self.gauge.get_page(Reading::Old, pageno - 1).ok();
+        }
+        Some(page)
+    }
+}
+
+impl<'a> Iterator for Leaves<'a> {
+    type Item = Page<'a>;
+
+    fn next(&mut self) -> Option<Page<'a>> {
+        loop {
+            let pageno = self.pages.next()?;
+            if let Some(page) = self.leaf(pageno) {
+                return Some(page);
+            }
+        }
+    }
+}
+
+impl FusedIterator for Leaves<'_> {}
+
+/// A cell of a table leaf, and where it stands.
+#[derive(Clone, Copy, Debug)]
+pub struct Row<'a> {
+    /// The page's number, from 1 on in every reading.
+    pub page: u32,
+    /// The cell's number on the page, from 0 on.
+    pub cell: usize,
+    /// What the reading shows of it.
+    pub shown: Result<Cell<'a>, Refusal>,
+}
+
+/// Every cell of every table leaf, in one reading.
+#[derive(Clone, Debug)]
+pub struct Rows<'a> {
+    leaves: Leaves<'a>,
+    page: u32,
+    cell: usize,
+    cells: Option<Cells<'a>>,
+}
+
+impl<'a> Rows<'a> {
+    pub(crate) fn of(leaves: Leaves<'a>) -> Rows<'a> {
+        Rows { leaves, page: 0, cell: 0, cells: None }
+    }
+
+    /// The next leaf, if there is one.
+    fn turn(&mut self) -> Option<()> {
+        let page = self.leaves.next()?;
+        self.page = page.number() - page.reading().first_page() + 1;
+        self.cell = 0;
+        self.cells = Some(page.cells());
+        Some(())
+    }
+}
+
+impl<'a> Iterator for Rows<'a> {
+    type Item = Row<'a>;
+
+    #[inline]
+    fn next(&mut self) -> Option<Row<'a>> {
+        loop {
+            if let Some(shown) = self.cells.as_mut().and_then(Cells::next) {
+                let cell = self.cell;
+                self.cell += 1;
+                return Some(Row { page: self.page, cell, shown });
+            }
+            self.turn()?;
+        }
+    }
+}

@@ -1,0 +1,328 @@
+//! The command `shorgavel`: its output, its statuses, and what it does where it cannot go on.
+
+mod common;
+
+use common::{every_kind, put, two_rows};
+use std::ffi::OsStr;
+use std::fs::{self, File};
+use std::io::Write;
+use std::path::{Path, PathBuf};
+use std::process::{Command, Output, Stdio};
+
+/// The command; on another machine than x86-64, under the emulator that bin/rust-test names.
+fn command() -> Command {
+    let program = env!("CARGO_BIN_EXE_shorgavel");
+    match std::env::var_os("SHORGAVEL_UNDER") {
+        Some(emulator) => {
+            let mut command = Command::new(emulator);
+            command.arg(program);
+            command
+        }
+        None => Command::new(program),
+    }
+}
+
+fn run<S: AsRef<OsStr>>(words: &[S]) -> Output {
+    command().args(words).output().expect("the command runs")
+}
+
+fn fed(words: &[&str], bytes: &[u8]) -> Output {
+    let mut command = command();
+    command.args(words).stdin(Stdio::piped()).stdout(Stdio::piped()).stderr(Stdio::piped());
+    let mut child = command.spawn().expect("the command runs");
+    child.stdin.take().unwrap().write_all(bytes).unwrap();
+    child.wait_with_output().unwrap()
+}
+
+fn out(output: &Output) -> &str {
+    std::str::from_utf8(&output.stdout).unwrap()
+}
+
+fn err(output: &Output) -> &str {
+    std::str::from_utf8(&output.stderr).unwrap()
+}
+
+fn status(output: &Output) -> i32 {
+    output.status.code().unwrap()
+}
+
+/// The inputs and outputs that are kept for the proved program `rows`.
+fn kept(name: &str, file: &str) -> PathBuf {
+    Path::new(env!("CARGO_MANIFEST_DIR")).join("../crates").join(name).join(file)
+}
+
+/// A file that is gone once the test is over.
+struct Kept(PathBuf);
+
+impl Kept {
+    fn new(name: &str, bytes: &[u8]) -> Kept {
+        let path = Path::new(env!("CARGO_TARGET_TMPDIR")).join(name);
+        fs::write(&path, bytes).unwrap();
+        Kept(path)
+    }
+
+    fn show(&self, words: &[&str]) -> Output {
+        command().arg(words[0]).arg(&self.0).args(&words[1..]).output().unwrap()
+    }
+}
+
+impl Drop for Kept {
+    fn drop(&mut self) {
+        fs::remove_file(&self.0).unwrap();
+    }
+}
+
+#[test]
+fn rows_are_the_proved_programs_lines() {
+    let refused = ["rows_empty", "rows_refused"];
+    let shown = ["rows", "rows_hand", "rows_largest", "rows_reserved"];
+    for name in shown.iter().chain(&refused) {
+        let output = run(&[OsStr::new("rows"), kept(name, "stdin").as_os_str()]);
+        assert!(output.stdout == fs::read(kept(name, "stdout")).unwrap(), "{name}");
+        assert_eq!(status(&output), i32::from(refused.contains(name)), "{name}");
+    }
+}
+
+/// The proved program reads 65,536 bytes and refuses one more with 22; the command's limit is the readers' own.
+#[test]
+fn rows_reads_on_where_the_proved_program_stops() {
+    assert!(fs::read_to_string(kept("rows_over", "stdout")).unwrap().ends_with("\nrefused 22\n"));
+    let output = run(&[OsStr::new("rows"), kept("rows_over", "stdin").as_os_str()]);
+    assert_eq!((out(&output), status(&output)), ("page cell reading rowid values\nrefused 1\n", 1));
+
+    let mut bytes = fs::read(kept("rows_largest", "stdin")).unwrap();
+    bytes.extend(vec![0; 65_536]);
+    let longer = fed(&["rows", "-"], &bytes);
+    assert!(longer.stdout == fs::read(kept("rows_largest", "stdout")).unwrap());
+}
+
+/// A file with a hole of a gigabyte and one byte more: it is refused by its length.
+#[test]
+fn over_the_limit_is_refused_unread() {
+    let file = Kept::new("over_the_limit", b"");
+    File::options().write(true).open(&file.0).unwrap().set_len(1_073_741_825).unwrap();
+    let output = file.show(&["rows"]);
+    assert_eq!((out(&output), status(&output)), ("page cell reading rowid values\nrefused 22\n", 1));
+    for words in [&["header"][..], &["page", "1"], &["compare"], &["sheet"]] {
+        let output = file.show(words);
+        assert_eq!((out(&output), status(&output)), ("", 1));
+        assert_eq!(err(&output), "shorgavel: refused 22 (OverLimit): there are over 1,073,741,824 bytes\n");
+    }
+}
+
+#[test]
+fn one_reading_shows_its_lines_alone() {
+    let all = fs::read_to_string(kept("rows_hand", "stdout")).unwrap();
+    for reading in ["old", "file", "guarded"] {
+        let of_reading = |line: &&str| line.starts_with("page ") || line.split(' ').nth(2) == Some(reading);
+        let expected: Vec<_> = all.lines().filter(of_reading).collect();
+        let file = kept("rows_hand", "stdin");
+        let output = run(&[OsStr::new("rows"), OsStr::new("--reading"), OsStr::new(reading), file.as_os_str()]);
+        assert_eq!(out(&output).lines().collect::<Vec<_>>(), expected);
+        assert_eq!(status(&output), 0);
+    }
+}
+
+#[test]
+fn standard_input_is_a_dash() {
+    let output = fed(&["rows", "-", "--reading", "file"], &two_rows());
+    let expected = "page cell reading rowid values\n1 0 file 1 i:1 i:16777216\n1 1 file 2 i:0 i:16777216\n";
+    assert_eq!(out(&output), expected);
+    let empty = fed(&["rows", "-"], b"");
+    assert_eq!((out(&empty), status(&empty)), ("page cell reading rowid values\nrefused 1\n", 1));
+    assert_eq!(
+        err(&empty),
+        "shorgavel: refused 1 (OpeningDiffers): the 16 opening bytes of a database are not there\n"
+    );
+}
+
+#[test]
+fn header_has_both_readings() {
+    let output = run(&[OsStr::new("header"), kept("rows_reserved", "stdin").as_os_str()]);
+    let lines: Vec<Vec<_>> = out(&output).lines().map(|line| line.split_whitespace().collect()).collect();
+    assert_eq!((lines.len(), status(&output)), (22, 0));
+    assert_eq!(lines[0], ["field", "old", "file"]);
+    assert_eq!(lines[1], ["page_size", "512", "512"]);
+    assert_eq!(lines[4], ["reserved_space", "0", "32"]);
+}
+
+#[test]
+fn header_that_file_refuses_is_shown_as_old_has_it() {
+    let output = run(&[OsStr::new("header"), kept("rows_refused", "stdin").as_os_str()]);
+    assert!(out(&output).lines().nth(1).unwrap().ends_with("512    refused"));
+    assert_eq!(status(&output), 1);
+    assert_eq!(out(&fed(&["header", "-"], b"")), "");
+    assert_eq!(err(&output), "shorgavel: refused 7 (FractionsDiffer): the payload fractions are not 64, 32, 32\n");
+}
+
+#[test]
+fn page_has_head_and_entries() {
+    let file = Kept::new("page", &two_rows());
+    let output = file.show(&["page", "1"]);
+    let lines: Vec<Vec<_>> = out(&output).lines().map(|line| line.split_whitespace().collect()).collect();
+    assert_eq!(lines[0], ["page", "1,", "file", "reading"]);
+    assert_eq!(lines[1], ["kind", "13", "(leaf", "table)"]);
+    assert_eq!(lines[2], ["first_freeblock_offset", "-"]);
+    assert_eq!(lines[4], ["cell_content_offset", "494"]);
+    assert_eq!(lines[9], ["0", "503", "-", "7", "1", "3", "2"]);
+    assert_eq!((lines.len(), status(&output)), (11, 0));
+    assert!(out(&file.show(&["page", "0", "--reading", "old"])).starts_with("page 0, old reading\n"));
+    let absent = file.show(&["page", "2"]);
+    assert_eq!((out(&absent), status(&absent)), ("", 1));
+    assert_eq!(err(&absent), "shorgavel: refused 8 (PageAbsent): the page is not wholly in the bytes\n");
+}
+
+#[test]
+fn compare_says_where_the_readings_part() {
+    let output = run(&[OsStr::new("compare"), kept("rows_hand", "stdin").as_os_str()]);
+    let expected = "\
+page 1 cell 4 column 0: type 9: old shows 0, the gauge wrote 1
+page 1 cell 6 column 0: an empty text: old shows null, the gauge wrote ''
+page 1 cell 10: a header size that is not in one byte: old shows row 11: 8, 11003806875647, the gauge wrote row 11: 5
+page 1 cell 11: file refuses it (14 HeaderUnfit: the record's header does not fit), old shows row 12: 5
+";
+    assert!(out(&output).starts_with(expected));
+    assert!(out(&output).ends_with("\n14 cells compared: 5 part, 2 are refused by old and file alike\n"));
+    assert_eq!((err(&output), status(&output)), ("", 1));
+    let largest = run(&[OsStr::new("compare"), kept("rows_largest", "stdin").as_os_str()]);
+    let first = "page 1 cell 0: a varint of over five bytes: old refuses it (13 CellCut: the cell is cut short), \
+                 the gauge wrote row -1: 42, ''\n";
+    assert!(out(&largest).starts_with(first));
+}
+
+#[test]
+fn compare_is_content_where_they_agree() {
+    let mut bytes = every_kind();
+    bytes[506] = 8;
+    let output = fed(&["compare", "-"], &bytes);
+    let expected = "2 cells compared: 0 part, 0 are refused by old and file alike\n";
+    assert_eq!((out(&output), status(&output)), (expected, 0));
+}
+
+/// A header size of 2 in two bytes, `80 02`: file has no types. The one byte that old takes for types is behind the
+/// payload: a null, or no type at all, and then the two show the same.
+#[test]
+fn compare_tells_what_guarded_alone_refuses() {
+    let mut bytes = two_rows();
+    put(&mut bytes, 503, b"\x02\x01\x80\x02\x00");
+    let place = "page 1 cell 0: a header size that is not in one byte: old ";
+    let differing = format!("{place}shows row 1: null, the gauge wrote row 1 with no columns\n");
+    assert!(out(&fed(&["compare", "-"], &bytes)).starts_with(&differing));
+    bytes[507] = 0x80;
+    let output = fed(&["compare", "-"], &bytes);
+    let expected = format!("{place}and file show the same, guarded refuses it\n2 cells compared: 1 part, ");
+    assert!(out(&output).starts_with(&expected));
+    assert_eq!(status(&output), 1);
+}
+
+/// A text and a name that could be taken for markup.
+#[test]
+fn sheet_is_one_page_and_escapes_what_it_shows() {
+    let mut bytes = every_kind();
+    put(&mut bytes, 429, b"<&");
+    let file = Kept::new("a <sheet>.db", &bytes);
+    let output = file.show(&["sheet"]);
+    let page = out(&output);
+    assert_eq!((err(&output), status(&output)), ("", 0));
+    assert!(page.starts_with("<!doctype html>") && page.ends_with("</html>\n"));
+    assert!(page.contains("<h1>a &lt;sheet&gt;.db</h1>"));
+    assert!(page.contains("'&lt;&amp;'") && !page.contains("'<&'"));
+    assert!(page.contains("The readings part on 1 of 2 rows"));
+    assert_eq!(page.matches("<tr class=p>").count(), 1);
+    assert!(page.contains("<b class=\"d\">0</b>") && page.contains("<b class=\"d\">1</b>"));
+    assert!(page.contains(">refused 21 Marked: a type 9, a stored 1"));
+    for other in ["<script", "http", "src=", "@import", "url("] {
+        assert!(!page.contains(other), "{other}");
+    }
+}
+
+#[test]
+fn sheet_of_narrow_rows_has_a_column_for_each_value() {
+    let output = fed(&["sheet", "-"], &two_rows());
+    let parting = "<td class=\"s d\">0<td>16777216<td class=\"s d\">1<td>16777216<td class=\"s r\" colspan=2>";
+    let agreeing =
+        "<tr><th>1<th>2<td class=\"s\">0<td>16777216<td class=\"s\">0<td>16777216<td class=\"s\">0<td>16777216\n";
+    assert!(out(&output).contains(parting) && out(&output).contains(agreeing));
+    assert!(out(&output).contains("<h1>standard input</h1>"));
+    let mut agreeing = two_rows();
+    agreeing[506] = 8;
+    assert!(out(&fed(&["sheet", "-"], &agreeing)).contains("Old and file agree on all 2 rows."));
+}
+
+#[test]
+fn sheet_of_parting_rows_has_no_other() {
+    let output = fed(&["sheet", "-", "--parting"], &two_rows());
+    let row = "<tr class=p><th>1<th>0<th>1<td class=s><div><b class=\"d\">0</b><b>16777216</b></div>\
+               <td class=s><div><b class=\"d\">1</b><b>16777216</b></div><td class=\"s r\" colspan=1>refused 21 Marked: ";
+    assert!(out(&output).contains(row));
+    assert_eq!((out(&output).matches("<table").count(), out(&output).matches("<tr><th>").count()), (1, 0));
+    let both = fed(&["sheet", "-", "--parting"], &[two_rows(), vec![0; 512]].concat());
+    assert_eq!(out(&both).matches("<tr class=p>").count(), 1);
+}
+
+#[test]
+fn help_and_version_are_told() {
+    for word in ["-h", "--help"] {
+        let output = run(&[word]);
+        assert_eq!((err(&output), status(&output)), ("", 0));
+        for command in ["header", "page", "rows", "compare", "sheet", "--reading", "--parting"] {
+            assert!(out(&output).contains(&format!("\n  {command} ")), "{command}");
+        }
+    }
+    assert_eq!(out(&run(&["rows", "--help"])), out(&run(&["-h"])));
+    assert_eq!(out(&run(&["--version"])), concat!("shorgavel ", env!("CARGO_PKG_VERSION"), "\n"));
+}
+
+#[test]
+fn wrong_words_end_with_2() {
+    let wrong: [(&[&str], &str); 11] = [
+        (&[], "a command is missing"),
+        (&["row"], "there is no command row"),
+        (&["rows"], "rows: FILE is missing"),
+        (&["page", "-"], "page: N is missing"),
+        (&["page", "-", "one"], "page: one is no page number"),
+        (&["rows", "-", "-", "x"], "rows: - is one word too many"),
+        (&["rows", "-", "--fast"], "there is no option --fast"),
+        (&["rows", "-", "--reading"], "--reading takes old, file or guarded"),
+        (&["rows", "-", "--reading", "new"], "--reading takes old, file or guarded"),
+        (&["sheet", "-", "--reading", "old"], "sheet takes no --reading"),
+        (&["rows", "-", "--parting"], "rows takes no --parting"),
+    ];
+    for (words, why) in wrong {
+        let output = run(words);
+        assert_eq!((out(&output), status(&output)), ("", 2), "{why}");
+        assert_eq!(err(&output), format!("shorgavel: {why}; `shorgavel --help` has the words\n"));
+    }
+}
+
+#[test]
+fn files_that_cannot_be_read_end_with_3() {
+    for file in [env!("CARGO_TARGET_TMPDIR"), "no such file"] {
+        let output = run(&["rows", file]);
+        assert_eq!((out(&output), status(&output)), ("", 3));
+        assert!(err(&output).starts_with(&format!("shorgavel: {file} cannot be read: ")));
+    }
+}
+
+#[test]
+fn a_full_disk_ends_with_3() {
+    let full = File::options().write(true).open("/dev/full").unwrap();
+    let mut command = command();
+    command.arg("rows").arg(kept("rows", "stdin")).stdout(full);
+    let output = command.output().unwrap();
+    assert_eq!(status(&output), 3);
+    assert!(err(&output).starts_with("shorgavel: the output cannot be written: "));
+}
+
+/// Whoever reads may go away. What these write does not fit in a pipe, so the command notices.
+#[test]
+fn a_broken_pipe_ends_it_quietly() {
+    for words in ["rows", "sheet"] {
+        let mut command = command();
+        command.arg(words).arg(kept("rows_largest", "stdin")).stdout(Stdio::piped()).stderr(Stdio::piped());
+        let mut child = command.spawn().unwrap();
+        drop(child.stdout.take());
+        let output = child.wait_with_output().unwrap();
+        assert_eq!((err(&output), status(&output)), ("", 0), "{words}");
+    }
+}
