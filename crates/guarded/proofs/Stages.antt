@@ -78,7 +78,7 @@ module _ (n : ℕ) (db : List ℕ) where
 
 -- A CELL OF IT
 
-marked : (i : ℕ) (o : Open) (p : ℕ) (c : dc.Cell) (m : Marking) → foundBy (unmarked i o p c m) ≡ markedBy i (o .kind) c (cursorIn o p c) m
+marked : (i : ℕ) (o : Open) (p : ℕ) (c : dc.Cell) (m : Marking) → foundBy (unmarked i o p c m) ≡ markedBy i (fo.Shown (o .kind) c (cursorIn o p c)) m
 marked i o p c Clear = refl
 marked i o p c (By mark) = refl
 
@@ -105,13 +105,13 @@ module _ (o : Open) (i : ℕ) (db : List ℕ) where
             subst (λ (z : Cursor). (z .at ≤ z .stop) × (z .stop ≤ length db)) q (omega arith, omega (arith, l .1, l .2))
 
     pub cell-marked : foundIn o i db
-        ≡ markedBy i kind cell cursor
+        ≡ markedBy i (fo.Shown kind cell cursor)
         (lowest (cell .size .length) (cell .row .length) (cell .header .length) (typesOf (limit (cursor .reading)) (take (cursor .stop - cursor .at) (drop (cursor .at) db))))
     unfolding foundIn row.foundIn
     cell-marked = go (againOf o i db) e
       where
         go : (x : Located) → foundBy x ≡ fo.Shown kind cell cursor → foundBy (guardedBy i db x)
-            ≡ markedBy i kind cell cursor
+            ≡ markedBy i (fo.Shown kind cell cursor)
             (lowest (cell .size .length) (cell .row .length) (cell .header .length) (typesOf (limit (cursor .reading)) (take (cursor .stop - cursor .at) (drop (cursor .at) db))))
         go (lo.Refused y) d = never cc
         go (lo.Shown y p c) d =

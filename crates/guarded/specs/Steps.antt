@@ -7,10 +7,7 @@ use Rattle.answers.specs.declared.Reason.{Reason}
 use Rattle.answers.specs.declared.Reason.the-variants as re
 use Rattle.answers.specs.declared.Refusal.the-variants.{InCell}
 use Rattle.answers.specs.declared.Fault.the-variants as fa
-use Rattle.cell.specs.declared.Kind.{Kind}
 use Rattle.cell.specs.declared.Kind.the-variants.{InteriorIndex, InteriorTable, LeafIndex, LeafTable}
-use Rattle.cell.specs.declared.Cell as dc
-use Rattle.columns.specs.declared.Cursor.{Cursor}
 use Rattle.page.specs.declared.KindAnswer.{KindAnswer}
 use Rattle.page.specs.declared.KindAnswer.the-variants.{Known, Unknown}
 use Rattle.page.specs.declared.Open.{Open}
@@ -33,10 +30,10 @@ otherKind (Known LeafTable) = false
 abbrev pub refusedBy : KindAnswer → Reason → Reason
 refusedBy kind reason = pick (otherKind kind) re.KindUnfit reason
 
--- a cell by its mark
-abbrev pub markedBy : ℕ → Kind → dc.Cell → Cursor → Marking → FoundAnswer
-markedBy i kind c cursor Clear = fo.Shown kind c cursor
-markedBy i kind c cursor (By mark) = fo.Refused (InCell i (fa.Marked mark))
+-- what was found of cell i, by its mark
+abbrev pub markedBy : ℕ → FoundAnswer → Marking → FoundAnswer
+markedBy i answer Clear = answer
+markedBy i answer (By mark) = fo.Refused (InCell i (fa.Marked mark))
 
 -- cell i of a page that is open already
 unfoldable pub foundIn : Open → ℕ → List ℕ → FoundAnswer

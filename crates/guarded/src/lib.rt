@@ -11,9 +11,7 @@ ghost use Rattle.guarded.specs.Steps.{otherKind, refusedBy, markedBy, fo
 use answers::Fault;
 use answers::Reason;
 use answers::Refusal;
-use cell::Cell;
 use cell::Kind;
-use columns::Cursor;
 use marks::Marking;
 use page::KindAnswer;
 use page::Open;
@@ -67,12 +65,12 @@ pub fn open_page(db: &[u8], number: u32) -> OpenAnswer
     }
 }
 
-// A cell, unless it is marked.
-fn unmarked(i: usize, kind: Kind, cell: Cell, cursor: Cursor, marking: Marking) -> FoundAnswer
-    ensures { λ r. ⌜ r ≡ markedBy i kind cell cursor marking ⌝ }
+// What was found, unless it is marked.
+fn unmarked(i: usize, answer: FoundAnswer, marking: Marking) -> FoundAnswer
+    ensures { λ r. ⌜ r ≡ markedBy i answer marking ⌝ }
 {
     match marking {
-        Marking::Clear => FoundAnswer::Shown { kind, cell, cursor },
+        Marking::Clear => answer,
         Marking::By(mark) => FoundAnswer::Refused(Refusal::InCell {
             cell: i,
             fault: Fault::Marked(mark),
@@ -87,8 +85,12 @@ pub fn found_in(db: &[u8], opened: Open, i: usize) -> FoundAnswer
 {
     let answer = row::found_in(db, opened, i);
     match answer {
-        FoundAnswer::Refused(refusal) => FoundAnswer::Refused(refusal),
-        FoundAnswer::Shown { kind, cell, cursor } => {
+        FoundAnswer::Refused(_) => answer,
+        FoundAnswer::Shown {
+            kind: _,
+            cell,
+            cursor,
+        } => {
             let start = cursor.at;
             let stop = cursor.stop;
             let reading = cursor.reading;
@@ -98,7 +100,7 @@ pub fn found_in(db: &[u8], opened: Open, i: usize) -> FoundAnswer
             let header = cell.header;
             let types = &db[start..stop];
             let marking = marks::mark_of(types, limit, size.length, row.length, header.length);
-            unmarked(i, kind, cell, cursor, marking)
+            unmarked(i, answer, marking)
         }
     }
 }
