@@ -7,15 +7,15 @@ use mathlib.Core.Bool.{Bool, true, false, _&&_, or-true}
 use native.Mathlib.Nat.{le-trans, min-le-left}
 use native.Mathlib.Numerals.{add-one}
 use native.Mathlib.Omega.{arith}
-use lib.Dec.{leb, eqb, leb→le}
+use lib.Dec.{leb, eqb, leb→le, eqb→eq}
 use lib.ListN.{length, take, drop, getD, length-take, drop-of-length-le}
 use lib.Seq.{drop-cons, take-nil, take-all}
 use mir.Facts.{and-yes}
 use borrow.Author.Tests.{eq-eqb, ne-eqb}
 use Rattle.laws.proofs.Table.{at}
-use Rattle.tables.specs.Tables.{fields}
-use Rattle.tables.specs.declared.Field.{Field}
+use Rattle.tables.specs.Tables.{Field, fields}
 use Rattle.fields.specs.Fields.{unsigned}
+use Rattle.header.specs.Places.{placeOf, bytesOf}
 use Rattle.header.specs.Header.{alike, among}
 
 -- THE TABLE OF FIELDS
@@ -34,6 +34,18 @@ within i h =
     let early = leb (entry i .at + entry i .width) 100 in
     let both = and-yes narrow early (at fits (map (λ f. f .at) fields) tt i h) in
     (leb→le (entry i .width) 4 (both .0), leb→le (entry i .at + entry i .width) 100 (both .1))
+
+-- the sums are the table's
+summed : ℕ → ℕ → Bool
+summed i at = eqb (placeOf i) (entry i .at) && eqb (bytesOf i) (entry i .width)
+
+pub sums : (i : ℕ) → i < 21 → (placeOf i ≡ entry i .at) × (bytesOf i ≡ entry i .width)
+unfolding summed
+sums i h =
+    let place = eqb (placeOf i) (entry i .at) in
+    let bytes = eqb (bytesOf i) (entry i .width) in
+    let both = and-yes place bytes (at summed (map (λ f. f .at) fields) tt i h) in
+    (eqb→eq (placeOf i) (entry i .at) (both .0), eqb→eq (bytesOf i) (entry i .width) (both .1))
 
 -- so a reader of four bytes that is handed a field reads the field
 pub read : (db : List ℕ) (at width : ℕ) → width ≤ 4

@@ -8,8 +8,7 @@ use mathlib.Core.Bool.{Bool, true, false, not, _||_, _&&_}
 use lib.Dec.{ltb, eqb}
 use lib.ListN.{length, take, drop, getD}
 use Rattle.laws.specs.Pick.{pick}
-use Rattle.tables.specs.Tables.{fields}
-use Rattle.tables.specs.declared.Field.{Field}
+use Rattle.tables.specs.Tables.{Field, fields}
 use Rattle.fields.specs.Fields.{unsigned}
 use Rattle.reading.specs.declared.Reading.{Reading}
 use Rattle.reading.specs.declared.Reading.the-variants.{Old as old, File as file}

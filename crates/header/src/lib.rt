@@ -5,11 +5,11 @@ ghost use mathlib.Core.Path.{_≡_};
 ghost use Prim.Native.Nat.{_≤_, _<_};
 ghost use lib.ListN.{length, take};
 ghost use Rattle.answers.specs.Checks.{first};
+ghost use Rattle.header.specs.Places.{placeOf, bytesOf};
 ghost use Rattle.header.specs.Header.{fieldOf, pageSize, usable, end, alike, opening, fileChecks, checkedOf, reservedIn, fieldsIn, headerOf, shapeOf};
 use answers::Checked;
 use answers::Reason;
 use reading::Reading;
-use tables::FIELDS;
 
 // The largest database that is read, in bytes.
 const LIMIT: usize = 1_073_741_824;
@@ -61,14 +61,43 @@ pub enum ShapeAnswer {
     Refused(Reason),
 }
 
+// Where field `i` of the table stands: those of one byte follow each other from 18 on, those of four from 24 and from 92 on.
+fn place_of(i: usize) -> usize
+    requires { ⌜ i < 21 ⌝ }
+    ensures { λ r. ⌜ r ≡ placeOf i ⌝ }
+{
+    if i < 1 {
+        return 16;
+    }
+    if i < 7 {
+        return i + 17;
+    }
+    if i < 19 {
+        return 4 * i - 4;
+    }
+    4 * i + 16
+}
+
+// How many bytes it has.
+fn bytes_of(i: usize) -> usize
+    ensures { λ r. ⌜ r ≡ bytesOf i ⌝ }
+{
+    if i < 1 {
+        return 2;
+    }
+    if i < 7 {
+        return 1;
+    }
+    4
+}
+
 // Field `i` of the table.
 fn field(db: &[u8], i: usize) -> u32
     requires { ⌜ (i < 21) × (100 ≤ length (now db)) ⌝ }
     ensures { λ r. ⌜ r ≡ fieldOf i (now (db .entry)) ⌝ }
 {
-    let f = FIELDS[i];
-    let at = f.at;
-    let end = at + f.width;
+    let at = place_of(i);
+    let end = at + bytes_of(i);
     fields::be_u32(&db[at..end])
 }
 

@@ -1,11 +1,15 @@
 -- The constant tables of the file format, as the definitions read them.
 use Prim.Native.Nat.{ℕ}
 use mathlib.Core.List.{List, [], _∷_}
-use Rattle.tables.specs.declared.Field.{Field}
 
 -- 2.1 "Record Format": the widths of serial types 0 to 9
 abbrev pub widths : List ℕ
 widths = 0 ∷ 1 ∷ 2 ∷ 3 ∷ 4 ∷ 6 ∷ 8 ∷ 8 ∷ 0 ∷ 0 ∷ []
+
+-- where a field of the header stands, and how many bytes it has
+pub record Field : Type 0 where
+  pub at : ℕ
+  pub width : ℕ
 
 abbrev field : ℕ → ℕ → Field
 field at width = record { at = at; width = width }

@@ -49,13 +49,13 @@ unmarked-requires : tie.Need-unmarked-requires
 unmarked-requires c κs = search needs
 
 returns : tie.Need-returns
-returns c = 
+returns c =
     let a = c .before .before .before .before .args in
     let e = c .enum-told .given .1 in
     e ∙ sym (cell-refused (a .opened) (a .i) (now (a .db)) (sym (c .before .before .found-in .ensures) ∙ e))
 
 returns-2 : tie.Need-returns-2
-returns-2 c = 
+returns-2 c =
     let k = c .before .before .before .before .before .before .before in
     rw (c .before .mark-of .ensures, c .before .before .before .before .before .before .limit-of .ensures) at (c .unmarked .ensures) ∙ sym (cell-marked _ _ _ (shown k))
 
