@@ -1,8 +1,9 @@
 // Every public call for C and Rust: a turn of types and nothing more.
 //
 // Each function calls one of a reader and hands its answer on as a struct of numbers (`types`, `turns`): C has no enums
-// that hold something, and an exported function answers no reference. Nothing is decided here. include/shorgavel.h
-// declares the calls. A slice is a pointer that is not null and a length, also where it is empty. Pages count from 0 in
+// that hold something, and an exported function answers no reference. Nothing is decided here; the values of a row are
+// fetched by the readers' own steps, one after the other, into a table (`batch`, `quick`). include/shorgavel.h declares
+// the calls. A slice is a pointer that is not null and a length, also where it is empty. Pages count from 0 in
 // the old reading and from 1 in the other two.
 mod batch;
 mod quick;

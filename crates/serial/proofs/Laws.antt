@@ -1,5 +1,5 @@
 -- What callers cite of serial types.
-use Prim.Native.Nat.{ℕ, _-_, _/_, _%_, _≤_, _<_}
+use Prim.Native.Nat.{ℕ, zero-le, _+_, _-_, _/_, _%_, _≤_, _<_}
 use mathlib.Core.Path.{_≡_, refl}
 use mathlib.Core.Bool.{Bool, true, false}
 use native.Mathlib.Omega.{arith}
@@ -18,6 +18,18 @@ length-either kind h = go (eqb (kind % 2) 0) refl
     go : (b : Bool) → eqb (kind % 2) 0 ≡ b → (kind - 12) / 2 ≡ pick b ((kind - 12) / 2) ((kind - 13) / 2)
     go true e = refl
     go false e = let odd = eqb-false (kind % 2) 0 e in omega arith
+
+-- what is none of the numbers up to n is past it
+pub past : (n : ℕ) {k : ℕ} → n ≤ k → (k ≡ n → ⊥) → n + 1 ≤ k
+past n h e = omega arith
+
+abbrev other : ℕ → ℕ → Type 0
+other kind n = kind ≡ n → ⊥
+
+-- a type that no arm from 0 to 9 names
+pub ten : {k : ℕ} → (((((((((Unit {0} × other k 0) × other k 1) × other k 2) × other k 3) × other k 4) × other k 5) × other k 6) × other k 7) × other k 8) × other k 9 → 10 ≤ k
+ten (((((((((((u, n0), n1), n2), n3), n4), n5), n6), n7), n8), n9)) =
+    past 9 (past 8 (past 7 (past 6 (past 5 (past 4 (past 3 (past 2 (past 1 (past 0 zero-le n0) n1) n2) n3) n4) n5) n6) n7) n8) n9
 
 -- past the table
 pub no-width : (kind : ℕ) → 10 ≤ kind → getD widths kind 0 ≡ 0

@@ -1,5 +1,5 @@
 -- Which patterns are a NaN's, which types are long, and what those of both readings come to.
-use Prim.Native.Nat.{ℕ, zero-le, _+_, _-_, _/_, _%_, _≤_, _<_}
+use Prim.Native.Nat.{ℕ, _-_, _/_, _%_, _≤_, _<_}
 use mathlib.Core.Path.{_≡_, refl, sym, _∙_}
 use mathlib.Core.List.{List}
 use mathlib.Core.Bool.{Bool, true, false, not}
@@ -36,18 +36,6 @@ pub the-nan : (bits : ℕ) → infinity < unsigned-bits bits → div binary64 (o
 unfolding div ofBits
 the-nan bits h =
     sym (is-nan (ofBits binary64 bits) (sym (nanBits-is binary64 bits) ∙ nanBits-above binary64 bits ∙ lt-ltb infinity (unsigned-bits bits) h))
-
--- what is none of the numbers up to n is past it
-pub past : (n : ℕ) {k : ℕ} → n ≤ k → (k ≡ n → ⊥) → n + 1 ≤ k
-past n h e = omega arith
-
-abbrev other : ℕ → ℕ → Type 0
-other kind n = kind ≡ n → ⊥
-
--- a type that no arm from 0 to 9 names
-pub ten : {k : ℕ} → (((((((((Unit {0} × other k 0) × other k 1) × other k 2) × other k 3) × other k 4) × other k 5) × other k 6) × other k 7) × other k 8) × other k 9 → 10 ≤ k
-ten (((((((((((u, n0), n1), n2), n3), n4), n5), n6), n7), n8), n9)) =
-    past 9 (past 8 (past 7 (past 6 (past 5 (past 4 (past 3 (past 2 (past 1 (past 0 zero-le n0) n1) n2) n3) n4) n5) n6) n7) n8) n9
 
 -- below 14 a text or a blob would have no bytes
 pub no-bytes : (kind : ℕ) → eqb (lengthOf kind) 0 ≡ ltb kind 14

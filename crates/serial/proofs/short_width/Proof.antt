@@ -1,8 +1,6 @@
 -- Number by number.
-use Prim.Native.Nat.{_≤_}
 use mathlib.Core.Path.{sym}
-use native.Mathlib.Omega.{arith}
-use Rattle.serial.proofs.Laws.{no-width}
+use Rattle.serial.proofs.Laws.{ten, no-width}
 use Rattle.serial.proofs.short_width.Statement.{statement}
 use Rattle.serial.proofs.short_width.Tie as tie
 
@@ -37,12 +35,7 @@ returns-10 : tie.Need-returns-10
 returns-10 c = rw (c .match .keys10)
 
 returns-11 : tie.Need-returns-11
-returns-11 c =
-    let r = c .match .rest in
-    let kind = c .before .args .kind in
-    let five : 5 ≤ kind = omega (arith, r .0 .0 .0 .0 .0 .0 .0 .0 .0 .1, r .0 .0 .0 .0 .0 .0 .0 .0 .1, r .0 .0 .0 .0 .0 .0 .0 .1, r .0 .0 .0 .0 .0 .0 .1, r .0 .0 .0 .0 .0 .1) in
-    let ten : 10 ≤ kind = omega (arith, r .0 .0 .0 .0 .1, r .0 .0 .0 .1, r .0 .0 .1, r .0 .1, r .1) in
-    sym (no-width kind ten)
+returns-11 c = sym (no-width (c .before .args .kind) (ten (c .match .rest)))
 
 pub short-width-spec : {M : Type 1} → statement M
 short-width-spec =

@@ -6,7 +6,7 @@ use denote.Ref.{now}
 use borrow.Author.Needs.{needs}
 use Rattle.laws.proofs.Casts.{widen-fits, widen-same}
 use Rattle.values.specs.Old.{valueOf}
-use Rattle.values.proofs.Laws.{ten}
+use Rattle.serial.proofs.Laws.{ten}
 use Rattle.exports.specs.Turns.{integerOf}
 use Rattle.exports.proofs.Laws.{old-long}
 use Rattle.exports.proofs.quick.old_value.Statement.{statement}

@@ -4,10 +4,11 @@ use mir.Syntax.{w8, w16, w32, w64}
 use mir.Facts.{toZ-ofZ}
 use denote.Ref.{now}
 use borrow.Author.Needs.{needs}
+use Rattle.serial.proofs.Laws.{ten}
 use Rattle.laws.proofs.Casts.{widen-fits, widen-same}
 use Rattle.values.specs.File.{valueOf}
 use Rattle.values.specs.declared.file.Value.the-variants.{Integer}
-use Rattle.values.proofs.Laws.{ten, file-long}
+use Rattle.values.proofs.Laws.{file-long}
 use Rattle.values.proofs.file.value_of.Statement.{statement}
 use Rattle.values.proofs.file.value_of.Tie as tie
 

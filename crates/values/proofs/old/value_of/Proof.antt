@@ -5,9 +5,10 @@ use mir.Syntax.{w8, w16, w32, w64}
 use mir.Facts.{toZ-ofZ}
 use denote.Ref.{now}
 use borrow.Author.Needs.{needs}
+use Rattle.serial.proofs.Laws.{past}
 use Rattle.values.specs.Old.{valueOf}
 use Rattle.values.specs.declared.old.Value.the-variants.{I8, I16, I32, I64}
-use Rattle.values.proofs.Laws.{past, old-long, old-constant}
+use Rattle.values.proofs.Laws.{old-long, old-constant}
 use Rattle.values.proofs.old.value_of.Statement.{statement}
 use Rattle.values.proofs.old.value_of.Tie as tie
 
