@@ -49,7 +49,7 @@ pub record Inside (r : Reading) (k : Kind) (s : List ℕ) (p np nv h own : ℕ) 
 -- WHERE THE PARTS LIE
 
 -- the values end with the payload that the reading takes
-payload-ends : (r : Reading) (x p from : ℕ) (s : List ℕ) {n : ℕ} → from ≤ length s → payloadIn r x p (drop from s) ≡ pa.Whole n
+pub payload-ends : (r : Reading) (x p from : ℕ) (s : List ℕ) {n : ℕ} → from ≤ length s → payloadIn r x p (drop from s) ≡ pa.Whole n
     → valuesEnd r from p (length s) ≡ from + n
 payload-ends old x p from s {n} h e = let z : length (drop from s) ≡ n = cc in rw (← z, length-drop) (omega arith)
 payload-ends file x p from s {n} h e = go (ltb x p) (ltb (length (drop from s)) p) e

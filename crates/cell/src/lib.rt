@@ -121,7 +121,7 @@ fn index_most(usable: u32) -> u64
 }
 
 // The largest payload that lies whole on a page.
-fn most_whole(kind: Kind, usable: u32) -> u64
+pub fn most_whole(kind: Kind, usable: u32) -> u64
     ensures { λ r. ⌜ r ≡ mostWhole kind usable ⌝ }
 {
     match kind {
@@ -134,7 +134,7 @@ fn most_whole(kind: Kind, usable: u32) -> u64
 
 // How many of the bytes behind the numbers are the payload, whose size is given as `p`. The one place that looks for a
 // payload's bytes.
-fn payload_of(s: &[u8], reading: Reading, most: u64, p: u64) -> Payload
+pub fn payload_of(s: &[u8], reading: Reading, most: u64, p: u64) -> Payload
     ensures { λ r. ⌜ r ≡ payloadIn reading most p (now (s .entry)) ⌝ }
 {
     match reading {

@@ -1,2 +1,4 @@
-pub mod Laws
 pub mod Filling
+pub mod Shapes
+pub mod Checked
+pub mod Rows

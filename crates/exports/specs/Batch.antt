@@ -6,6 +6,8 @@ use lib.ListN.{length, drop}
 use Rattle.fields.specs.Fields.{twos}
 use Rattle.reading.specs.declared.Reading.{Reading}
 use Rattle.reading.specs.declared.Reading.the-variants.{Old as old, File as file}
+use Rattle.values.specs.Old as ov
+use Rattle.values.specs.File as fv
 use Rattle.columns.specs.declared.Cursor.{Cursor}
 use Rattle.columns.specs.declared.Stepped.{Stepped}
 use Rattle.columns.specs.declared.Stepped.the-variants.{Column, Done}
@@ -13,7 +15,7 @@ use Rattle.columns.specs.Columns.{stepOf}
 use Rattle.exports.specs.declared.types.Value.{Value}
 use Rattle.exports.specs.declared.types.Filled.{Filled}
 use Rattle.exports.specs.Turns.{filledOf}
-use Rattle.exports.specs.Quick.{oldAt, fileAt}
+use Rattle.exports.specs.Values.{oldValue, fileValue}
 
 -- a word by its 64 bits
 abbrev pub word : ℕ → ℤ
@@ -25,8 +27,8 @@ wordsOf v = word (v .kind + 256 * v .width) ∷ v .integer ∷ word (v .bits) �
 
 -- the value of a column as its reading shows it
 abbrev pub valueAt : Reading → ℕ → ℕ → List ℕ → Value
-valueAt old t at db = oldAt t at (drop at db)
-valueAt file t at db = fileAt t at (drop at db)
+valueAt old t at db = oldValue (ov.valueOf t at (drop at db))
+valueAt file t at db = fileValue (fv.valueOf t at (drop at db))
 
 -- how many values there are, the cursor behind them, and their words
 pub data Run : Type 0 where

@@ -1,16 +1,21 @@
 -- What the exported calls answer: the readers' definitions, turned.
 use Prim.Native.Nat.{ℕ}
 use mathlib.Core.List.{List}
+use lib.Dec.{eqb}
+use lib.IntN.{ℤ}
+use Rattle.laws.specs.Pick.{pick}
 use Rattle.reading.specs.declared.Reading.the-variants.{Old, File}
 use Rattle.header.specs.Header as header
 use Rattle.page.specs.Place.{oldKey, fileKey}
 use Rattle.page.specs.Open as opening
 use Rattle.page.specs.Page as page
-use Rattle.row.specs.Row.{foundBy, foundIn, foundOf}
+use Rattle.row.specs.Row.{foundBy, foundOf}
 use Rattle.row.specs.Old as old
 use Rattle.row.specs.File as file
 use Rattle.guarded.specs.Guarded as guarded
-use Rattle.guarded.specs.Steps as steps
+use Rattle.usual.specs.declared.RowAnswer.{RowAnswer}
+use Rattle.usual.specs.declared.RowAnswer.the-variants as ra
+use Rattle.usual.specs.Usual as usual
 use Rattle.exports.specs.declared.types.Opened.{Opened}
 use Rattle.exports.specs.declared.types.Opening.{Opening}
 use Rattle.exports.specs.declared.types.Along.{Along}
@@ -18,8 +23,9 @@ use Rattle.exports.specs.declared.types.Cell.{Cell}
 use Rattle.exports.specs.declared.types.Shown.{Shown}
 use Rattle.exports.specs.declared.types.Header.{Header}
 use Rattle.exports.specs.declared.types.Page.{Page}
-use Rattle.exports.specs.Turns.{readingOf, keyOf, openingBy, openOf, cursorOf, cellBy, headerBy, pageBy}
-use Rattle.exports.specs.Batch.{Run, runFrom}
+use Rattle.exports.specs.declared.types.Row.{Row}
+use Rattle.exports.specs.Turns.{numberOf, readingOf, keyOf, openingBy, openOf, cursorOf, cellBy, noRow, rowOf, headerBy, pageBy}
+use Rattle.exports.specs.Batch.{Run, runFrom, filledBy, over}
 use Rattle.exports.specs.Values.{oldShown, fileShown}
 
 -- THE DATABASE AND ITS PAGES
@@ -33,17 +39,25 @@ pageOf reading number room db = pageBy (page.pageOf (keyOf reading number) room 
 
 -- A PAGE THAT IS OPENED
 
+-- in the guarded reading where its number is 2
 abbrev pub openingOf : ℕ → ℕ → List ℕ → Opening
-openingOf reading number db = openingBy (opening.openOf (keyOf reading number) db)
+openingOf reading number db =
+    pick (eqb reading 2) (openingBy reading (guarded.openOf number db))
+    (openingBy (numberOf (readingOf reading)) (opening.openOf (keyOf reading number) db))
 
-abbrev pub guardedOpening : ℕ → List ℕ → Opening
-guardedOpening number db = openingBy (guarded.openOf number db)
+-- cell i of it
+abbrev pub rowIn : Opened → ℕ → List ℕ → RowAnswer
+rowIn opened i db = usual.rowIn (eqb (opened .reading) 2) (openOf opened) i db
 
-abbrev pub cellIn : Opened → ℕ → List ℕ → Cell
-cellIn opened i db = cellBy (foundIn (openOf opened) i db)
+-- what is answered where a table of so many places is lent
+abbrev pub rowBy : ℕ → List ℕ → RowAnswer → Row
+rowBy places db (ra.Refused refusal) = noRow refusal
+rowBy places db (ra.Shown number columns c) = rowOf number columns (filledBy (runFrom places c db))
 
-abbrev pub guardedCellIn : Opened → ℕ → List ℕ → Cell
-guardedCellIn opened i db = cellBy (steps.foundIn (openOf opened) i db)
+-- and what the table then holds
+abbrev pub rowOver : ℕ → List ℕ → RowAnswer → List ℤ → List ℤ
+rowOver places db (ra.Refused refusal) table = table
+rowOver places db (ra.Shown number columns c) table = over (runFrom places c db) table
 
 -- ONE CELL
 

@@ -1,5 +1,5 @@
 pub mod Turns
 pub mod Values
-pub mod Quick
 pub mod Batch
+pub mod Whole
 pub mod Calls

@@ -31,6 +31,7 @@ use Rattle.exports.specs.declared.types.Opening.{Opening}
 use Rattle.exports.specs.declared.types.Along.{Along}
 use Rattle.exports.specs.declared.types.Filled.{Filled}
 use Rattle.exports.specs.declared.types.Cell.{Cell}
+use Rattle.exports.specs.declared.types.Row.{Row}
 use Rattle.exports.specs.declared.types.Value.{Value}
 use Rattle.exports.specs.declared.types.Header.{Header}
 use Rattle.exports.specs.declared.types.Page.{Page}
@@ -69,10 +70,11 @@ kindBy byte = pick (eqb byte 2) InteriorIndex (pick (eqb byte 5) InteriorTable (
 abbrev pub unopened : Opened
 unopened = record { reading = 0; kind = 0; end = 0; at = 0; size = 0; from = 0; cells = 0 }
 
-abbrev pub openedOf : Open → Opened
-openedOf o =
+-- in the reading of that number
+abbrev pub openedOf : ℕ → Open → Opened
+openedOf reading o =
     record {
-      reading = numberOf (o .reading);
+      reading = reading;
       kind = kindByte (o .kind);
       end = o .end;
       at = o .at;
@@ -81,9 +83,9 @@ openedOf o =
       cells = o .cells;
     }
 
-abbrev pub openingBy : OpenAnswer → Opening
-openingBy (op.Refused reason) = record { refused = refusedBy (Plain reason); opened = unopened }
-openingBy (op.Shown o) = record { refused = accepted; opened = openedOf o }
+abbrev pub openingBy : ℕ → OpenAnswer → Opening
+openingBy reading (op.Refused reason) = record { refused = refusedBy (Plain reason); opened = unopened }
+openingBy reading (op.Shown o) = record { refused = accepted; opened = openedOf reading o }
 
 abbrev pub openOf : Opened → Open
 openOf o =
@@ -116,6 +118,16 @@ abbrev pub cellBy : FoundAnswer → Cell
 cellBy (fo.Refused refusal) = record { refused = refusedBy refusal; row = pos 0; columns = 0; along = nowhere }
 cellBy (fo.Shown kind c cursor) =
     record { refused = accepted; row = rowNumber (c .row .value); columns = c .columns; along = alongOf cursor }
+
+-- ROWS
+
+abbrev pub noRow : Refusal → Row
+noRow refusal = record { refused = refusedBy refusal; number = pos 0; columns = 0; count = 0; along = nowhere }
+
+-- a row of that number, and what a table was filled with of it
+abbrev pub rowOf : ℕ → ℕ → Filled → Row
+rowOf number columns filled =
+    record { refused = accepted; number = rowNumber number; columns = columns; count = filled .count; along = filled .along }
 
 -- VALUES
 

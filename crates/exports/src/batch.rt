@@ -7,7 +7,6 @@ ghost use Prim.Native.Nat.{_+_, _*_, _/_, _^_, _≤_, _<_};
 ghost use lib.ListN.{length};
 ghost use lib.Seq.{sets};
 ghost use Rattle.exports.specs.Batch.{wordsOf, valueAt, runFrom, filledBy, over};
-use crate::quick;
 use crate::turns;
 use crate::types::Filled;
 use crate::types::Value;
@@ -17,14 +16,14 @@ use fields::signed_of;
 use reading::Reading;
 
 // How many places a table of so many words has.
-fn places_of(words: usize) -> usize
+pub fn places_of(words: usize) -> usize
     ensures { λ r. ⌜ (r ≡ words / 5) × (5 * r < 2 ^ 64) ⌝ }
 {
     words / 5
 }
 
 // Stores a value at a place of the table.
-fn put(table: &mut [i64], at: usize, value: Value)
+pub fn put(table: &mut [i64], at: usize, value: Value)
     requires { ⌜ at + 5 ≤ length (now table) ⌝ }
     ensures { λ _. ⌜ now (table .exit) ≡ sets (now (table .entry)) at (wordsOf value) ⌝ }
 {
@@ -41,12 +40,12 @@ fn put(table: &mut [i64], at: usize, value: Value)
 }
 
 // The value of a column as its reading shows it.
-fn value_at(db: &[u8], reading: Reading, kind: u64, at: usize) -> Value
+pub fn value_at(db: &[u8], reading: Reading, kind: u64, at: usize) -> Value
     ensures { λ r. ⌜ r ≡ valueAt reading kind at (now (db .entry)) ⌝ }
 {
     match reading {
-        Reading::Old => quick::old_value(kind, row::from(db, at), at),
-        Reading::File => quick::file_value(kind, row::from(db, at), at),
+        Reading::Old => turns::old_value(values::old::value_of(kind, row::from(db, at), at)),
+        Reading::File => turns::file_value(values::file::value_of(kind, row::from(db, at), at)),
     }
 }
 

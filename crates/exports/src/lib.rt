@@ -2,13 +2,13 @@
 //
 // Each function calls one of a reader and hands its answer on as a struct of numbers (`types`, `turns`): C has no enums
 // that hold something, and an exported function answers no reference. Nothing is decided here; the values of a row are
-// fetched by the readers' own steps, one after the other, into a table (`batch`, `quick`). include/shorgavel.h declares
+// fetched by the readers' own steps, one after the other, into a table (`batch`, `whole`). include/shorgavel.h declares
 // the calls. A slice is a pointer that is not null and a length, also where it is empty. Pages count from 0 in
 // the old reading and from 1 in the other two.
 mod batch;
-mod quick;
 mod turns;
 pub mod types;
+mod whole;
 
 ghost use mathlib.Core.Path.{_≡_};
 ghost use Prim.Native.Nat.{_/_};
@@ -16,7 +16,7 @@ ghost use lib.ListN.{length};
 ghost use Rattle.page.specs.Page.{entryAt, filled};
 ghost use Rattle.exports.specs.Turns.{keyOf};
 ghost use Rattle.exports.specs.Batch.{filledBy, over};
-ghost use Rattle.exports.specs.Calls.{headerOf, pageOf, openingOf, guardedOpening, cellIn, guardedCellIn, oldCell, fileCell, guardedCell, oldRun, fileRun, oldShownOf, fileShownOf, guardedShownOf};
+ghost use Rattle.exports.specs.Calls.{headerOf, pageOf, openingOf, rowIn, rowBy, rowOver, oldCell, fileCell, guardedCell, oldRun, fileRun, oldShownOf, fileShownOf, guardedShownOf};
 use page::Entry;
 use reading::Reading;
 use types::Along;
@@ -26,7 +26,9 @@ use types::Header;
 use types::Opened;
 use types::Opening;
 use types::Page;
+use types::Row;
 use types::Shown;
+use usual::RowAnswer;
 
 // THE DATABASE AND ITS PAGES, by the number of the reading: 0 is old, any other number file
 
@@ -70,35 +72,39 @@ pub extern "C" fn shorgavel_entry(db: &[u8], reading: u8, number: u32, i: usize)
     page::entry_at(db, turns::key_of(reading, number), i)
 }
 
-// A PAGE THAT IS OPENED, for its cells one after the other
+// A PAGE THAT IS OPENED, for its cells one after the other: 2 is guarded, which opens table leaves alone
 
 #[no_mangle]
 pub extern "C" fn shorgavel_open(db: &[u8], reading: u8, number: u32) -> Opening
     ensures { λ r. ⌜ r ≡ openingOf reading number (now (db .entry)) ⌝ }
 {
-    turns::opening_by(page::open_page(db, turns::key_of(reading, number)))
+    if turns::is_guarded(reading) {
+        return turns::opening_by(reading, guarded::open_page(db, number));
+    }
+    let answer = page::open_page(db, turns::key_of(reading, number));
+    turns::opening_by(turns::told(reading), answer)
 }
 
-// A table leaf, for the guarded reading.
+// A row with its values, as many as the table has places; the cursor goes on behind them. On a refusal the table is left as
+// it was.
 #[no_mangle]
-pub extern "C" fn shorgavel_guarded_open(db: &[u8], number: u32) -> Opening
-    ensures { λ r. ⌜ r ≡ guardedOpening number (now (db .entry)) ⌝ }
+pub extern "C" fn shorgavel_row_in(db: &[u8], opened: Opened, i: usize, table: &mut [i64]) -> Row
+    ensures { λ r. ⌜ (r ≡ rowBy (length (now (table .entry)) / 5) (now (db .entry)) (rowIn opened i (now (db .entry))))
+        × (now (table .exit) ≡ rowOver (length (now (table .entry)) / 5) (now (db .entry)) (rowIn opened i (now (db .entry))) (now (table .entry))) ⌝ }
 {
-    turns::opening_by(guarded::open_page(db, number))
-}
-
-#[no_mangle]
-pub extern "C" fn shorgavel_cell_in(db: &[u8], opened: Opened, i: usize) -> Cell
-    ensures { λ r. ⌜ r ≡ cellIn opened i (now (db .entry)) ⌝ }
-{
-    turns::cell_by(row::found_in(db, turns::open_of(opened), i))
-}
-
-#[no_mangle]
-pub extern "C" fn shorgavel_guarded_cell_in(db: &[u8], opened: Opened, i: usize) -> Cell
-    ensures { λ r. ⌜ r ≡ guardedCellIn opened i (now (db .entry)) ⌝ }
-{
-    turns::cell_by(guarded::found_in(db, turns::open_of(opened), i))
+    let guarded = turns::is_guarded(opened.reading);
+    let answer = usual::row_in(db, turns::open_of(opened), guarded, i);
+    match answer {
+        RowAnswer::Refused(refusal) => turns::no_row(refusal),
+        RowAnswer::Shown {
+            number,
+            columns,
+            cursor,
+        } => {
+            let filled = whole::fill(db, cursor, columns, table);
+            turns::row_of(number, columns, filled)
+        }
+    }
 }
 
 // ONE CELL

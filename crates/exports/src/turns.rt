@@ -1,6 +1,7 @@
 // The turns of types: from the readers' answers to structs of numbers, and from a cursor's numbers back.
 ghost use mathlib.Core.Path.{_≡_};
-ghost use Rattle.exports.specs.Turns.{accepted, refusedBy, numberOf, readingOf, keyOf, kindBy, unopened, openedOf, openingBy, openOf, nowhere, alongOf, filledOf, cursorOf, cellBy, empty, integerOf, realOf, longOf, noFields, headerBy, noHead, pageBy};
+ghost use lib.Dec.{eqb};
+ghost use Rattle.exports.specs.Turns.{accepted, refusedBy, numberOf, readingOf, keyOf, kindBy, unopened, openedOf, openingBy, openOf, nowhere, alongOf, filledOf, noRow, rowOf, cursorOf, cellBy, empty, integerOf, realOf, longOf, noFields, headerBy, noHead, pageBy};
 ghost use Rattle.exports.specs.Values.{oldValue, oldShown, fileValue, fileShown};
 use crate::types::Along;
 use crate::types::Cell;
@@ -10,6 +11,7 @@ use crate::types::Opened;
 use crate::types::Opening;
 use crate::types::Page;
 use crate::types::Refused;
+use crate::types::Row;
 use crate::types::Shown;
 use crate::types::Value;
 use answers::Refusal;
@@ -63,6 +65,13 @@ fn number_of(reading: Reading) -> u8
     }
 }
 
+// Whether a number names the guarded reading, where a page is opened.
+pub fn is_guarded(number: u8) -> bool
+    ensures { λ r. ⌜ r ≡ eqb number 2 ⌝ }
+{
+    number == 2
+}
+
 // Every number names a reading, so that no call has to refuse one.
 pub fn reading_of(number: u8) -> Reading
     ensures { λ r. ⌜ r ≡ readingOf number ⌝ }
@@ -71,6 +80,13 @@ pub fn reading_of(number: u8) -> Reading
         return Reading::Old;
     }
     Reading::File
+}
+
+// The number that an opened page tells of its reading.
+pub fn told(number: u8) -> u8
+    ensures { λ r. ⌜ r ≡ numberOf (readingOf number) ⌝ }
+{
+    number_of(reading_of(number))
 }
 
 // The key of a page by the number of its reading.
@@ -111,13 +127,12 @@ fn no_page() -> Opened
     }
 }
 
-fn opened_of(page: Open) -> Opened
-    ensures { λ r. ⌜ r ≡ openedOf page ⌝ }
+fn opened_of(reading: u8, page: Open) -> Opened
+    ensures { λ r. ⌜ r ≡ openedOf reading page ⌝ }
 {
-    let reading = page.reading;
     let kind = page.kind;
     Opened {
-        reading: number_of(reading),
+        reading,
         kind: cell::kind_byte(kind),
         end: page.end,
         at: page.at,
@@ -127,8 +142,9 @@ fn opened_of(page: Open) -> Opened
     }
 }
 
-pub fn opening_by(answer: OpenAnswer) -> Opening
-    ensures { λ r. ⌜ r ≡ openingBy answer ⌝ }
+// A page as it was opened in the reading of that number.
+pub fn opening_by(reading: u8, answer: OpenAnswer) -> Opening
+    ensures { λ r. ⌜ r ≡ openingBy reading answer ⌝ }
 {
     match answer {
         OpenAnswer::Refused(reason) => Opening {
@@ -137,7 +153,7 @@ pub fn opening_by(answer: OpenAnswer) -> Opening
         },
         OpenAnswer::Shown(page) => Opening {
             refused: no_refusal(),
-            opened: opened_of(page),
+            opened: opened_of(reading, page),
         },
     }
 }
@@ -229,6 +245,33 @@ pub fn cell_by(answer: FoundAnswer) -> Cell
     }
 }
 
+// A row that is refused.
+pub fn no_row(refusal: Refusal) -> Row
+    ensures { λ r. ⌜ r ≡ noRow refusal ⌝ }
+{
+    Row {
+        refused: refused_by(refusal),
+        number: 0,
+        columns: 0,
+        count: 0,
+        along: no_cursor(),
+    }
+}
+
+// A row, and what a table was filled with of it.
+pub fn row_of(number: u64, columns: usize, filled: Filled) -> Row
+    ensures { λ r. ⌜ r ≡ rowOf number columns filled ⌝ }
+{
+    let along = filled.along;
+    Row {
+        refused: no_refusal(),
+        number: fields::signed_of(number),
+        columns,
+        count: filled.count,
+        along,
+    }
+}
+
 // VALUES
 
 // Null, and what stands where no value is shown.
@@ -285,7 +328,7 @@ pub fn long_of(kind: u8, at: usize, len: usize) -> Value
     }
 }
 
-fn old_value(value: values::old::Value) -> Value
+pub fn old_value(value: values::old::Value) -> Value
     ensures { λ r. ⌜ r ≡ oldValue value ⌝ }
 {
     match value {
@@ -315,7 +358,7 @@ pub fn old_shown(answer: row::old::ValueAnswer) -> Shown
     }
 }
 
-fn file_value(value: values::file::Value) -> Value
+pub fn file_value(value: values::file::Value) -> Value
     ensures { λ r. ⌜ r ≡ fileValue value ⌝ }
 {
     match value {

@@ -13,7 +13,7 @@ pub struct Refused {
 // A page that is opened: `page::Open`, its reading and its kind by number.
 #[repr(C)]
 pub struct Opened {
-    // 0: old; any other number: file.
+    // 0: old, 2: guarded; any other number: file.
     pub reading: u8,
     // The format's byte; any other number than 2, 5 and 10 is taken for 13, a table leaf.
     pub kind: u8,
@@ -72,6 +72,16 @@ pub struct Shown {
 // How many values a table was filled with, and the cursor behind the last.
 #[repr(C)]
 pub struct Filled {
+    pub count: usize,
+    pub along: Along,
+}
+
+// A row: its number, its column count, how many of its values the table was filled with, and the cursor behind the last.
+#[repr(C)]
+pub struct Row {
+    pub refused: Refused,
+    pub number: i64,
+    pub columns: usize,
     pub count: usize,
     pub along: Along,
 }

@@ -1,14 +1,14 @@
 -- What the sum of bytes and powers obeys: one byte more, the end, and the bound.
 use Prim.Native.Nat.{ℕ, zero, suc, _+_, _-_, _*_, _^_, _≤_, _<_}
-use mathlib.Core.Path.{_≡_}
+use mathlib.Core.Path.{_≡_, sym, _∙_}
 use mathlib.Core.List.{List, [], _∷_}
 use native.Mathlib.Nat.{pow-succ', add-mul, mul-assoc, add-assoc, mul-one, add-zero, zero-mul, zero-add, min-le-left}
 use native.Mathlib.Numerals.{add-one}
 use native.Mathlib.Omega.{arith}
 use lib.Arith.{digits-lt}
 use lib.Dec.{lit<}
-use lib.ListN.{length, take, drop, getD, length-take}
-use lib.Seq.{drop-cons, take-all, take-length, getD-drop}
+use lib.ListN.{length, take, drop, getD, length-take, length-drop}
+use lib.Seq.{length-take-le, drop-cons, take-all, take-length, getD-drop}
 use Rattle.laws.proofs.Powers.{digits-within}
 use Rattle.fields.specs.Fields.{be, unsigned}
 
@@ -42,6 +42,21 @@ module _ (s : List ℕ) (w i v : ℕ) where
 -- a part that is shorter than the field is all of it
 pub ends-early : (s : List ℕ) (w : ℕ) → length s ≤ w → unsigned (length s) s ≡ unsigned w s
 ends-early s w h = rw (take-length s, take-all w s h)
+
+-- six bytes are a field of two and one of four
+module _ (s : List ℕ) (h : 6 ≤ length s) where
+  front : unsigned 2 s ≡ spells 0 (take 2 (drop 0 s))
+  front = sym (spells-zero (take 2 s))
+
+  behind : spells 0 (take 6 (drop 0 s)) ≡ unsigned 2 s * 4294967296 + unsigned 4 (drop 2 s)
+  unfolding spells
+  behind =
+      let l : length (take 4 (drop 2 s)) ≡ 4 = length-take-le 4 (drop 2 s) (rw length-drop (omega arith)) in
+      let v = front ∙ next s 2 0 0 (omega arith) (omega arith) ∙ next s 2 1 _ (omega arith) (omega arith) ∙ whole s 2 2 _ (omega arith) in
+      next s 6 0 0 (omega arith) (omega arith) ∙ next s 6 1 _ (omega arith) (omega arith) ∙ rw (← v, l)
+
+  pub in-two : unsigned 6 s ≡ unsigned 2 s * 4294967296 + unsigned 4 (drop 2 s)
+  in-two = sym (spells-zero (take 6 s)) ∙ behind
 
 -- THE BOUND: bytes are below 256, so w of them spell a number below 256 to the w
 

@@ -110,10 +110,14 @@ pub fn be_i32(part: &[u8]) -> i32
     signed_spelt(part, 4) as i32
 }
 
+// As two fields, each one load: six bytes are none.
 pub fn be_i48(part: &[u8]) -> i64
     ensures { λ r. ⌜ r ≡ signed 6 (now (part .entry)) ⌝ }
 {
-    signed_spelt(part, 6)
+    if part.len() < 6 {
+        return signed_spelt(part, 6);
+    }
+    be_i16(part) as i64 * 0x1_0000_0000 + spelt(&part[2..], 4) as i64
 }
 
 pub fn be_i64(part: &[u8]) -> i64

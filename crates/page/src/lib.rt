@@ -408,7 +408,7 @@ fn located_in(page: &[u8], opened: Open, i: usize) -> Located
 }
 
 // Whether an opened page lies in so many bytes, and its pointers before its end. By differences: any numbers may be given.
-fn lies(bytes: usize, opened: Open) -> bool
+pub fn lies(bytes: usize, opened: Open) -> bool
     ensures { λ r. ⌜ r ≡ liesIn bytes opened ⌝ }
 {
     let kind = opened.kind;

@@ -14,7 +14,7 @@ pub enum Width {
 }
 
 // The widths of types 0 to 9.
-fn short_width(kind: u64) -> u64
+pub fn short_width(kind: u64) -> u64
     ensures { λ r. ⌜ r ≡ getD widths kind 0 ⌝ }
 {
     match kind {

@@ -1,16 +1,18 @@
--- What callers cite of varints: how long one is, that a longer limit finds what a shorter one does, and no more of that
+-- What callers cite of varints: that of one byte, how long one is, that a longer limit finds what a shorter one does, and no more of that
 -- length; that bytes behind a varint do not matter and are left there; and how large a number of at most eight bytes is.
 use Prim.Native.Nat.{ℕ, zero, suc, _+_, _^_, _≤_, _<_}
 use mathlib.Core.Path.{_≡_}
 use mathlib.Core.Logic.{_↔_}
 use mathlib.Core.List.{List, _++_}
+use native.Mathlib.Nat.{sub-zero, zero-add}
 use native.Mathlib.Omega.{arith}
 use lib.Dec.{lit<}
-use lib.ListN.{length, drop}
+use lib.ListN.{length, drop, getD}
 use lib.Seq.{drop-append-le}
 use Rattle.laws.proofs.Powers.{digit-more, digits-within}
 use Rattle.varint.specs.declared.Varint.the-variants.{Value}
 use Rattle.varint.specs.Varint.{varintOf}
+use Rattle.varint.proofs.Steps as Steps
 use Rattle.varint.proofs.Found.{Reads, ninth, last, next, found, is-found}
 
 took : {k n v x m : ℕ} {s : List ℕ} → n ≤ 8 → Reads x m k n v s → (n < m) × (m ≤ n + k) × (m ≤ n + length s) × (m ≤ 9)
@@ -42,6 +44,12 @@ small : {k n v x m : ℕ} {s : List ℕ} → n + k ≤ 8 → v < 128 ^ n → Rea
 small l b (ninth h p q) = absurd (omega arith)
 small {n = n} l b (last h c p q) = rw (← p, ← q) (digit-more 128 n b c)
 small {n = n} l b (next h c r) = small (omega arith) (digit-more 128 n b (omega arith)) r
+
+-- a byte whose top bit is clear is a number
+pub one-byte : (s : List ℕ) (limit : ℕ) → 1 ≤ limit → 0 < length s → getD s 0 0 < 128 → varintOf limit s ≡ Value (getD s 0 0) 1
+one-byte s limit h l b =
+    let e = Steps.last limit s 0 0 (omega arith) l (λ z. absurd (omega arith)) b in
+    rw (sub-zero, zero-add) at e
 
 module _ (s : List ℕ) {x m : ℕ} where
   -- a varint takes one byte at least, and no more than the limit, the bytes there are, and nine

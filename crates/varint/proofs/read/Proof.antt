@@ -1,9 +1,8 @@
--- The first byte by the same law as every last byte.
-use mathlib.Core.Path.{_≡_, sym, _∙_}
-use native.Mathlib.Nat.{sub-zero, zero-add}
+-- A first byte that ends the number by the law of one byte, any other by the loop.
+use mathlib.Core.Path.{sym}
 use native.Mathlib.Omega.{arith}
 use denote.Ref.{now}
-use Rattle.varint.proofs.Steps.{last}
+use Rattle.varint.proofs.Laws.{one-byte}
 use borrow.Author.Needs.{needs}
 use Rattle.varint.proofs.read.Statement.{statement}
 use Rattle.varint.proofs.read.Tie as tie
@@ -35,8 +34,7 @@ returns-3 c = search needs
 returns-4 : tie.Need-returns-4
 returns-4 c =
     let a = c .before .before .before .before .before .args in
-    let e = last (a .limit) (now (a .s)) 0 0 (omega arith) (omega arith) (λ z. absurd (omega arith)) (c .if3 .left) in
-    sym (rw (sub-zero, zero-add) at e)
+    sym (one-byte (now (a .s)) (a .limit) (omega arith) (omega arith) (c .if3 .left))
 
 pub read-spec : {M : Type 1} → statement M
 read-spec =

@@ -10,6 +10,9 @@ enum-told c = search needs
 from-requires : tie.Need-from-requires
 from-requires c κs = search needs
 
+value-of-requires : tie.Need-value-of-requires
+value-of-requires c κs = search needs
+
 old-value-requires : tie.Need-old-value-requires
 old-value-requires c κs = search needs
 
@@ -19,14 +22,17 @@ enum-told-2 c = search needs
 from-requires-2 : tie.Need-from-requires-2
 from-requires-2 c κs = search needs
 
+value-of-requires-2 : tie.Need-value-of-requires-2
+value-of-requires-2 c κs = search needs
+
 file-value-requires : tie.Need-file-value-requires
 file-value-requires c κs = search needs
 
 returns : tie.Need-returns
-returns c = c .old-value .ensures ∙ rw (c .before .from .ensures, c .before .before .enum-told .given .1)
+returns c = c .old-value .ensures ∙ rw (c .before .value-of .ensures, c .before .before .from .ensures, c .before .before .before .enum-told .given .1)
 
 returns-2 : tie.Need-returns-2
-returns-2 c = c .file-value .ensures ∙ rw (c .before .from2 .ensures, c .before .before .enum-told2 .given .1)
+returns-2 c = c .file-value .ensures ∙ rw (c .before .value-of2 .ensures, c .before .before .from2 .ensures, c .before .before .before .enum-told2 .given .1)
 
 pub value-at-spec : {M : Type 1} → statement M
 value-at-spec =
@@ -34,9 +40,11 @@ value-at-spec =
     (tie.spec
     enum-told
     from-requires
+    value-of-requires
     old-value-requires
     enum-told-2
     from-requires-2
+    value-of-requires-2
     file-value-requires
     returns
     returns-2)

@@ -1,0 +1,183 @@
+-- A row whose record was checked, column by column: a step comes to the next one as long as there is one.
+use Prim.Native.Nat.{ℕ, _+_, _-_, _*_, _≤_, _<_}
+use mathlib.Core.Path.{_≡_, refl, sym, ap, _∙_}
+use mathlib.Core.Logic.{_⊎_, inl, inr}
+use mathlib.Core.List.{List, [], _∷_}
+use native.Mathlib.Nat.{zero-add, add-zero}
+use native.Mathlib.Omega.{arith}
+use lib.IntN.{ℤ}
+use lib.ListN.{length, take, drop, getD, length-take, length-drop}
+use lib.Seq.{getD-take, getD-drop, sets}
+use borrow.Author.Tests.{le-ltb}
+use Rattle.laws.proofs.Parts.{tail}
+use Rattle.varint.specs.declared.Cause.{Cause}
+use Rattle.varint.specs.declared.Varint.{Varint}
+use Rattle.varint.specs.declared.Varint.the-variants as vi
+use Rattle.varint.specs.Varint.{varintOf}
+use Rattle.varint.proofs.Laws.{length-bounds}
+use Rattle.varint.proofs.Laws as varint
+use Rattle.reading.specs.declared.Reading.{Reading}
+use Rattle.reading.specs.Reading.{limit}
+use Rattle.reading.proofs.Laws.{takes-five}
+use Rattle.serial.specs.declared.Width.the-variants as wi
+use Rattle.serial.specs.Serial.{widthOf}
+use Rattle.record.specs.Types.{num, Types, done, broken, column, typesOf, count, walk}
+use Rattle.record.proofs.Laws.{types-nil, types-broken}
+use Rattle.record.proofs.Room.{Past}
+use Rattle.record.proofs.Room as room
+use Rattle.columns.specs.declared.Cursor.{Cursor}
+use Rattle.columns.specs.declared.Stepped.the-variants.{Column, Done}
+use Rattle.columns.specs.Columns.{typesAt, behind, stepIn, stepOf}
+use Rattle.columns.proofs.Laws.{ahead, types-behind, step-passes}
+use Rattle.exports.specs.declared.types.Value.{Value}
+use Rattle.exports.specs.Turns.{filledOf}
+use Rattle.exports.specs.Batch.{wordsOf, valueAt, runFrom, filledBy, over}
+use Rattle.exports.specs.Whole.{Whole, shapeOf, valueBy, bytesIn}
+use Rattle.exports.proofs.Filling.{Held, one-more, all-stored, run-done, run-full}
+use Rattle.exports.proofs.Shapes.{shape-shows}
+
+-- of so many columns n are behind the cursor, and the rest are all there
+pub record Left (r : Reading) (columns : ℕ) (db : List ℕ) (c : Cursor) (n : ℕ) : Type 0 where
+  pub reading : c .reading ≡ r
+  pub ordered : c .value ≤ c .end
+  pub within : c .end ≤ length db
+  pub past : Past (walk n (c .end - c .value) (typesAt c db))
+  pub counted : n + count (typesAt c db) ≡ columns
+
+pub at-first : (c : Cursor) (columns : ℕ) (db : List ℕ) → Whole c columns db → Left (c .reading) columns db c 0
+at-first c columns db w =
+    record { reading = refl; ordered = w .ordered; within = w .within; past = w .past; counted = zero-add (count (typesAt c db)) ∙ w .columns }
+
+-- THE BYTES OF A TYPE
+
+-- no type is counted where none is read
+none-counted : (limit : ℕ) (s : List ℕ) {cause : Cause} → varintOf limit s ≡ vi.Unfinished cause → count (typesOf limit s) ≡ 0
+none-counted limit [] e = ap count (types-nil limit)
+none-counted limit (b ∷ s) e = ap count (types-broken limit (b ∷ s) (omega arith) e)
+
+module _ (c : Cursor) (db : List ℕ) {t m : ℕ} (e : varintOf (limit (c .reading)) (ahead c db) ≡ vi.Value t m) where
+  -- there is one
+  pub type-within : (c .at < c .stop) × (c .at < length db)
+  type-within = let b = simp (length-take, length-drop) at (length-bounds (ahead c db) (limit (c .reading)) e) in omega arith
+
+  first-byte : getD (ahead c db) 0 0 ≡ getD db (c .at) 0
+  first-byte =
+      let w = type-within in
+      let l : 0 < c .stop - c .at = omega arith in
+      rw (getD-take, getD-drop, add-zero)
+
+  -- a byte below 128 is the type
+  pub one-byte : getD db (c .at) 0 < 128 → (t ≡ getD db (c .at) 0) × (m ≡ 1)
+  one-byte h =
+      let b = length-bounds (ahead c db) (limit (c .reading)) e in
+      let l = varint.one-byte (ahead c db) (limit (c .reading)) (omega (arith, takes-five (c .reading))) (omega arith) (rw first-byte h) in
+      let v = sym (rw first-byte at l) ∙ e in
+      (cc, cc)
+
+-- ONE COLUMN MORE
+
+-- its type t of m bytes, its value of w bytes, and the step there
+pub record Next (r : Reading) (columns : ℕ) (db : List ℕ) (c : Cursor) (n : ℕ) : Type 0 where
+  pub t : ℕ
+  pub m : ℕ
+  pub w : ℕ
+  pub read : varintOf (limit (c .reading)) (ahead c db) ≡ vi.Value t m
+  pub width : widthOf t ≡ wi.Bytes w
+  pub room : c .value + w ≤ c .end
+  pub step : stepOf c db ≡ Column t (c .value) (behind m w c)
+  pub left : Left r columns db (behind m w c) (n + 1)
+
+module _ {r : Reading} {columns : ℕ} (db : List ℕ) (c : Cursor) (n : ℕ) (h : Left r columns db c n) where
+  pub none-left : columns ≤ n → stepOf c db ≡ Done
+  unfolding stepOf stepIn
+  none-left l = go (typesAt c db) (omega (arith, h .counted))
+    where
+      go : (ts : Types) → count ts ≡ 0 → stepIn c ts ≡ Done
+      go done e = refl
+      go broken e = refl
+      go (column (num t m) rest) e = absurd (omega arith)
+
+  pub next : n < columns → Next r columns db c n
+  next l = go (varintOf (limit (c .reading)) (ahead c db)) refl
+    where
+      go : (v : Varint) → varintOf (limit (c .reading)) (ahead c db) ≡ v → Next r columns db c n
+      go (vi.Unfinished cause) e = absurd (omega (arith, h .counted, none-counted (limit (c .reading)) (ahead c db) e))
+      go (vi.Value t m) e =
+          let rest = typesAt (behind m 0 c) db in
+          let i = types-behind c db e 0 in
+          let p = room.passed Past (λ k d. d) (λ k d. d) n (c .end - c .value) t m rest (rw i at (h .past)) in
+          let over : c .end - c .value - p .width ≡ c .end - (c .value + p .width) = omega arith in
+          record {
+            t = t;
+            m = m;
+            w = p .width;
+            read = e;
+            width = p .has;
+            room = omega (arith, p .room, h .ordered);
+            step = step-passes c db e (p .has) ∙ rw (le-ltb (c .end - c .value) (p .width) (p .room));
+            left = record {
+              reading = h .reading;
+              ordered = omega (arith, p .room, h .ordered);
+              within = h .within;
+              past = rw over at (p .on);
+              counted = omega (arith, h .counted, ap count i);
+            };
+          }
+
+-- where the type is one byte
+module _ {r : Reading} {columns : ℕ} (db : List ℕ) (c : Cursor) (n : ℕ) (h : Left r columns db c n) (x : Next r columns db c n) (b : getD db (c .at) 0 < 128) where
+  type-is : (x .t ≡ getD db (c .at) 0) × (x .m ≡ 1)
+  type-is = one-byte c db (x .read) b
+
+  pub byte-width : widthOf (getD db (c .at) 0) ≡ wi.Bytes (x .w)
+  byte-width = rw (type-is .0) at (x .width)
+
+  pub byte-value : valueBy (shapeOf r) (getD db (c .at) 0) (c .value) (take (length db - c .value) (drop (c .value) db))
+      ≡ valueAt (c .reading) (x .t) (c .value) db
+  byte-value =
+      rw (tail db (c .value), ← type-is .0, ← h .reading) (shape-shows (c .reading) (x .t) (c .value) db)
+
+  pub byte-behind : (end : ℕ) → end ≡ c .value + bytesIn (widthOf (getD db (c .at) 0))
+      → record { reading = r; at = c .at + 1; stop = c .stop; value = end; end = c .end } ≡ behind (x .m) (x .w) c
+  byte-behind end e = rw (e, byte-width, type-is .1, h .reading)
+
+-- where a step was taken
+module _ {r : Reading} {columns : ℕ} (db : List ℕ) (c : Cursor) (n : ℕ) (h : Left r columns db c n) (x : Next r columns db c n) {t at : ℕ} {on : Cursor}
+    (e : stepOf c db ≡ Column t at on) where
+  same : Column t at on ≡ Column (x .t) (c .value) (behind (x .m) (x .w) c)
+  same = sym e ∙ x .step
+
+  pub step-value : valueAt r t at db ≡ valueAt (c .reading) (x .t) (c .value) db
+  step-value =
+      let d = same in
+      let i : t ≡ x .t = cc in
+      let j : at ≡ c .value = cc in
+      rw (i, j, h .reading)
+
+  pub step-behind : on ≡ behind (x .m) (x .w) c
+  step-behind = let d = same in cc
+
+-- THE TURNS OF A LOOP
+
+module _ (places : ℕ) (first : Cursor) (db : List ℕ) (lent : List ℤ) (room : 5 * places ≤ length lent) (table : List ℤ) (here : Cursor) (n : ℕ)
+    (h : Held places first db lent table here n) {r : Reading} {columns : ℕ} where
+  -- one value more
+  pub goes-on : (x : Next r columns db here n) (l : n < places) {after : List ℤ} {there : Cursor} (v : Value)
+      → v ≡ valueAt (here .reading) (x .t) (here .value) db → after ≡ sets table (5 * n) (wordsOf v) → there ≡ behind (x .m) (x .w) here
+      → Held places first db lent after there (n + 1) × Left r columns db there (n + 1)
+  goes-on x l {after} {there} v e s t =
+      rw (s, t) (one-more places first db lent room table here n h (wordsOf v) (behind (x .m) (x .w) here) l (x .step) (ap wordsOf (sym e)) refl, x .left)
+
+  -- no value more: `most` is the smaller of both numbers
+  pub comes-to-end : {A B : Type 0} {most : ℕ} → Left r columns db here n → _⊎_ (A × (most ≡ columns)) (B × (most ≡ places)) → most ≤ n
+      → (filledOf n here ≡ filledBy (runFrom places first db)) × (table ≡ over (runFrom places first db) lent)
+  comes-to-end k (inl p) l = all-stored places first db lent room table here n h (run-done (places - n) here db (none-left db here n k (omega (arith, p .1))))
+  comes-to-end k (inr p) l =
+      let full : places - n ≡ 0 = omega (arith, p .1) in
+      all-stored places first db lent room table here n h (rw full (run-full here db))
+
+-- what is the smaller of two numbers is within both
+pub smaller : {A B : Type 0} {columns places most : ℕ} → (A → columns < places) → (B → places ≤ columns)
+    → _⊎_ (A × (most ≡ columns)) (B × (most ≡ places)) → (most ≤ columns) × (most ≤ places)
+smaller f g (inl p) = omega (arith, p .1, f (p .0))
+smaller f g (inr p) = omega (arith, p .1, g (p .0))

@@ -1,0 +1,189 @@
+-- The values so far with those to come are the run from the first cursor on, and those to come are all there.
+use Prim.Native.Nat.{_+_, _*_, _-_, _≤_, _<_}
+use mathlib.Core.Path.{sym, ap, _∙_}
+use mathlib.Core.Logic.{inl, inr}
+use native.Mathlib.Omega.{arith}
+use lib.ListN.{length, getD, take, drop}
+use denote.Ref.{now}
+use borrow.Author.Needs.{needs}
+use Rattle.laws.proofs.Never.{never}
+use Rattle.serial.specs.declared.Width.the-variants.{Bytes}
+use Rattle.exports.specs.Whole.{valueBy, bytesIn}
+use Rattle.exports.proofs.Filling.{Held}
+use Rattle.exports.proofs.Filling as filling
+use Rattle.exports.proofs.Checked.{Left, Next, at-first, next, type-within, byte-width, byte-value, byte-behind, step-value, step-behind, goes-on, comes-to-end, smaller}
+use Rattle.exports.proofs.whole.fill.Statement.{statement}
+use Rattle.exports.proofs.whole.fill.Tie as tie
+
+abbrev Inv-loop : tie.InvT-loop
+Inv-loop db columns table₀ reading shape places most here₀ n₀ table here n = Held places here₀ db table₀ table here n × Left reading columns db here n
+
+abbrev μ-loop : tie.MeasureT-loop
+μ-loop db columns table₀ reading shape places most here₀ n₀ table here n = most - n
+
+-- a turn is within both numbers
+both : (c : tie.In-loop Inv-loop μ-loop)
+    → (c .before .loop .n < c .before .before .before .before .before .before .args .columns) × (c .before .loop .n < c .before .before .before .places-of .result)
+both c =
+    let s = smaller (λ t. t .taken) (λ t. t .left) (c .before .before .if1 .came) in
+    (omega (arith, c .loop-test .taken, s .0), omega (arith, c .loop-test .taken, s .1))
+
+-- so there is a column
+coming : (c : tie.In-loop Inv-loop μ-loop)
+    → Next (c .before .before .before .before .before .before .args .first .reading) (c .before .before .before .before .before .before .args .columns) (now (c .before .before .before .before .before .before .args .db)) (c .before .loop .here) (c .before .loop .n)
+coming c = let l = c .before .loop in next (now (c .before .before .before .before .before .before .args .db)) (l .here) (l .n) (l .inv .1) (both c .0)
+
+-- and a place
+place : (c : tie.In-loop Inv-loop μ-loop) → 5 * c .before .loop .n + 5 ≤ length (c .before .loop .table)
+place c = let l = c .before .loop in omega (arith, l .inv .0 .0, both c .1, c .before .before .before .places-of .ensures .0)
+
+shape-of-requires : tie.Need-shape-of-requires Inv-loop μ-loop
+shape-of-requires c κs = search needs
+
+places-of-requires : tie.Need-places-of-requires Inv-loop μ-loop
+places-of-requires c κs = search needs
+
+loop-holds : tie.Need-loop-holds Inv-loop μ-loop
+loop-holds c =
+    let a = c .before .before .before .before .args in
+    (filling.at-first _ _ _ _, at-first (a .first) (a .columns) (now (a .db)) (c .before .before .before .before .pre))
+
+shared-slice-read-kind : tie.Need-shared-slice-read-kind Inv-loop μ-loop
+shared-slice-read-kind c =
+    let w : c .before .before .loop .here .at < length (now (c .before .before .before .before .before .before .before .args .db)) = type-within (c .before .before .loop .here) (now (c .before .before .before .before .before .before .before .args .db)) (coming (c .before) .read) .1 in
+    search needs
+
+cast-kind : tie.Need-cast-kind Inv-loop μ-loop
+cast-kind c = omega (arith, c .shared-slice-known2 .given (c .before .before .loop .here .at))
+
+sub-put-value : tie.Need-sub-put-value Inv-loop μ-loop
+sub-put-value c = let i = c .before .before .before .loop .inv .1 in omega (arith, i .ordered, i .within)
+
+part-put-value-start : tie.Need-part-put-value-start Inv-loop μ-loop
+part-put-value-start c = let i = c .before .before .before .loop .inv .1 in omega (arith, i .ordered, i .within)
+
+part-put-value-end : tie.Need-part-put-value-end Inv-loop μ-loop
+part-put-value-end c = let i = c .before .before .before .loop .inv .1 in omega (arith, i .ordered, i .within)
+
+mul-put-value : tie.Need-mul-put-value Inv-loop μ-loop
+mul-put-value c = omega (arith, both (c .before .before .before .before) .1, c .before .before .before .before .before .before .before .places-of .ensures .1)
+
+put-value-requires : tie.Need-put-value-requires Inv-loop μ-loop
+put-value-requires c κs =
+    let l = c .before .before .before .before .before .loop in
+    let x = coming (c .before .before .before .before) in
+    let f = byte-width (now (c .before .before .before .before .before .before .before .before .before .before .args .db)) (l .here) (l .n) (l .inv .1) x (c .before .before .if2 .taken) in
+    (place (c .before .before .before .before), f ∙ ap Bytes (sym (ap bytesIn f)), omega (arith, ap bytesIn f, x .room, l .inv .1 .within))
+
+add-t27 : tie.Need-add-t27 Inv-loop μ-loop
+add-t27 c =
+    let w = type-within (c .before .before .before .before .before .before .before .before .loop .here) (now (c .before .before .before .before .before .before .before .before .before .before .before .before .before .args .db)) (coming (c .before .before .before .before .before .before .before) .read) in
+    omega (arith, w .0, w .1)
+
+step-requires : tie.Need-step-requires Inv-loop μ-loop
+step-requires c κs = search needs
+
+enum-known-reached : tie.Need-enum-known-reached Inv-loop μ-loop
+enum-known-reached c = search needs
+
+enum-told : tie.Need-enum-told Inv-loop μ-loop
+enum-told c = search needs
+
+filled-of-requires : tie.Need-filled-of-requires Inv-loop μ-loop
+filled-of-requires c κs = search needs
+
+same-length : tie.Need-same-length Inv-loop μ-loop
+same-length c = c .before .before .before .before .before .before .before .loop .inv .0 .0
+
+returns : tie.Need-returns Inv-loop μ-loop
+returns c =
+    let done = sym (coming (c .before .before .before .before .before .before) .step) ∙ sym (c .before .before .before .step .ensures) ∙ c .before .enum-told .given .1 in
+    never cc
+
+mul-put : tie.Need-mul-put Inv-loop μ-loop
+mul-put c = omega (arith, both (c .before .before .before .before .before .before .before) .1, c .before .before .before .before .before .before .before .before .before .before .places-of .ensures .1)
+
+value-at-requires : tie.Need-value-at-requires Inv-loop μ-loop
+value-at-requires c κs = search needs
+
+put-requires : tie.Need-put-requires Inv-loop μ-loop
+put-requires c κs = place (c .before .before .before .before .before .before .before .before)
+
+add-n : tie.Need-add-n Inv-loop μ-loop
+add-n c = omega (arith, both (c .before .before) .1, c .before .before .before .before .before .places-of .ensures .1)
+
+loop-less : tie.Need-loop-less Inv-loop μ-loop
+loop-less c = omega (arith, c .before .before .loop-test .taken)
+
+loop-again : tie.Need-loop-again Inv-loop μ-loop
+loop-again c =
+    let a = c .before .before .before .before .before .before .before .before .args in
+    let l = c .before .before .before .loop in
+    let p = c .before .before .before .before .before .places-of in
+    let s = c .before .before .before .before .before .before .shape-of in
+    let db = now (a .db) in
+    let x = coming (c .before .before) in
+    let on = goes-on (p .result) (a .first) db (now (a .table)) (omega (arith, p .ensures .0)) (l .table) (l .here) (l .n) (l .inv .0) x (both (c .before .before) .1) in
+    elim (c .if2 .came) [
+      | inl w ↦
+          let kind = getD db (l .here .at) 0 in
+          let part = take (length db - l .here .value) (drop (l .here .value) db) in
+          let b = w .0 .taken in
+          on (valueBy (s .result) kind (l .here .value) part)
+          (ap (λ shape. valueBy shape kind (l .here .value) part) (s .ensures) ∙ byte-value db (l .here) (l .n) (l .inv .1) x b)
+          (w .6 ∙ w .3 .ensures .1)
+          (w .7 ∙ byte-behind db (l .here) (l .n) (l .inv .1) x b (w .3 .result) (w .3 .ensures .0))
+      | inr w ↦
+          let e = sym (w .1 .ensures) ∙ w .3 .given .1 in
+          on (w .6 .result)
+          (w .6 .ensures ∙ step-value db (l .here) (l .n) (l .inv .1) x e)
+          (w .9 ∙ w .7 .ensures)
+          (w .10 ∙ step-behind db (l .here) (l .n) (l .inv .1) x e)
+    ]
+
+filled-of-requires-2 : tie.Need-filled-of-requires-2 Inv-loop μ-loop
+filled-of-requires-2 c κs = search needs
+
+same-length-2 : tie.Need-same-length-2 Inv-loop μ-loop
+same-length-2 c = c .before .before .loop .inv .0 .0
+
+returns-2 : tie.Need-returns-2 Inv-loop μ-loop
+returns-2 c =
+    let a = c .before .before .before .before .before .before .before .args in
+    let l = c .before .before .loop in
+    let p = c .before .before .before .before .places-of in
+    rw (c .filled-of2 .ensures, ← p .ensures .0)
+    (comes-to-end (p .result) (a .first) (now (a .db)) (now (a .table)) (omega (arith, p .ensures .0)) (l .table) (l .here) (l .n) (l .inv .0) (l .inv .1) (c .before .before .before .if1 .came) (c .before .loop-test .left))
+
+pub fill-spec : {M : Type 1} → statement M
+fill-spec =
+    tie.close
+    (tie.spec
+    Inv-loop
+    μ-loop
+    shape-of-requires
+    places-of-requires
+    loop-holds
+    shared-slice-read-kind
+    cast-kind
+    sub-put-value
+    part-put-value-start
+    part-put-value-end
+    mul-put-value
+    put-value-requires
+    add-t27
+    step-requires
+    enum-known-reached
+    enum-told
+    filled-of-requires
+    same-length
+    returns
+    mul-put
+    value-at-requires
+    put-requires
+    add-n
+    loop-less
+    loop-again
+    filled-of-requires-2
+    same-length-2
+    returns-2)

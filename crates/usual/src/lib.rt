@@ -1,0 +1,360 @@
+// Usual rows, by a short way: what `row::found_in` and `guarded::found_in` find, at a fraction of their cost.
+//
+// A row is usual if it is a cell of a table leaf whose numbers take at most five bytes each and whose header size takes one,
+// as those of a gauge do. One pass looks at each of its types once, and only for whether all is well. Where it is not, or
+// the row is not usual, the plain form answers: every answer and every refusal is the plain form's, which is the definition
+// here.
+ghost use mathlib.Core.Path.{_≡_};
+ghost use mathlib.Core.Bool.{true};
+ghost use Prim.Native.Nat.{_≤_, _<_};
+ghost use lib.ListN.{length};
+ghost use Rattle.laws.specs.Pick.{pick};
+ghost use Rattle.reading.specs.Reading.{limit};
+ghost use Rattle.record.specs.Types.{typesOf};
+ghost use Rattle.cell.specs.declared.Kind.the-variants.{LeafTable};
+ghost use Rattle.page.specs.Located.{liesIn};
+ghost use Rattle.usual.specs.Usual.{rowBy, rowIn};
+ghost use Rattle.usual.specs.Short.{Wide, Lying, LyingAs, Headed, Begun, Says};
+use answers::Refusal;
+use cell::Kind;
+use cell::Payload;
+use columns::Cursor;
+use marks::Marking;
+use page::Open;
+use reading::Reading;
+use row::FoundAnswer;
+use varint::Varint;
+
+// A row: its number, its column count, and the cursor before its first column.
+pub enum RowAnswer {
+    Shown {
+        number: u64,
+        columns: usize,
+        cursor: Cursor,
+    },
+    Refused(Refusal),
+}
+
+// WHAT THE SHORT WAY SAYS of a stage; nothing, where it is not usual or not well
+
+// How many bytes the value of a type takes.
+pub enum Width {
+    Bytes(u64),
+    Other,
+}
+
+// How many columns there are, and how many bytes their values leave over.
+pub enum Layout {
+    Fits { columns: usize, left: u64 },
+    Other,
+}
+
+// The header size of a record, and its columns.
+pub enum Header {
+    Size { size: usize, columns: usize },
+    Other,
+}
+
+// A row in its part of the page: where its payload begins, and how many bytes it takes.
+pub struct Place {
+    pub number: u64,
+    pub columns: usize,
+    pub from: usize,
+    pub payload: usize,
+    pub header: usize,
+}
+
+pub enum Row {
+    At(Place),
+    Other,
+}
+
+pub enum Found {
+    Row {
+        number: u64,
+        columns: usize,
+        cursor: Cursor,
+    },
+    Other,
+}
+
+// TYPES
+
+// The type of fixed width that is not usual: in the guarded reading a stored 1, which is a mark.
+fn barred_of(guarded: bool) -> u64
+    ensures { λ r. ⌜ r ≡ pick guarded 9 10 ⌝ }
+{
+    if guarded { 9 } else { 10 }
+}
+
+// The first type of a text or a blob that is usual: in the guarded reading one with bytes, since none is a mark.
+fn least_of(guarded: bool) -> u64
+    ensures { λ r. ⌜ r ≡ pick guarded 14 12 ⌝ }
+{
+    if guarded { 14 } else { 12 }
+}
+
+// How many bytes the value of a type of one byte takes.
+fn width_of(kind: u64, barred: u64, least: u64) -> Width
+    requires { ⌜ (barred ≤ 10) × (12 ≤ least) ⌝ }
+    ensures { λ r. ⌜ Wide kind barred least r ⌝ }
+{
+    if kind < 10 {
+        if kind == barred {
+            return Width::Other;
+        }
+        return Width::Bytes(serial::short_width(kind));
+    }
+    if kind < least {
+        return Width::Other;
+    }
+    if 128 <= kind {
+        return Width::Other;
+    }
+    Width::Bytes((kind - 12) / 2)
+}
+
+// How the values of the types `t` lie in `room` bytes, where each type is one byte.
+fn short_layout(t: &[u8], guarded: bool, room: u64) -> Layout
+    ensures { λ r. ⌜ LyingAs guarded room (now (t .entry)) r ⌝ }
+{
+    let barred = barred_of(guarded);
+    let least = least_of(guarded);
+    let mut at: usize = 0;
+    let mut left = room;
+    while at < t.len() {
+        let width = width_of(t[at] as u64, barred, least);
+        let Width::Bytes(w) = width else {
+            return Layout::Other;
+        };
+        if left < w {
+            return Layout::Other;
+        }
+        left -= w;
+        at += 1;
+    }
+    Layout::Fits { columns: at, left }
+}
+
+// The same, whatever the types are.
+fn long_layout(t: &[u8], reading: Reading, guarded: bool, room: u64) -> Layout
+    ensures { λ r. ⌜ Lying guarded room (typesOf (limit reading) (now (t .entry))) r ⌝ }
+{
+    let limit = reading::limit_of(reading);
+    if guarded {
+        let marking = marks::mark_of(t, limit, 1, 1, 1);
+        let Marking::Clear = marking else {
+            return Layout::Other;
+        };
+    }
+    let laid = record::lay(t, limit, room);
+    let record::Laid::Ends { columns, left } = laid else {
+        return Layout::Other;
+    };
+    Layout::Fits { columns, left }
+}
+
+fn layout_of(t: &[u8], reading: Reading, guarded: bool, room: u64) -> Layout
+    ensures { λ r. ⌜ Lying guarded room (typesOf (limit reading) (now (t .entry))) r ⌝ }
+{
+    let layout = short_layout(t, guarded, room);
+    match layout {
+        Layout::Fits {
+            columns: _,
+            left: _,
+        } => layout,
+        Layout::Other => long_layout(t, reading, guarded, room),
+    }
+}
+
+// ROWS
+
+// The header size of the record in `q`.
+fn header_of(q: &[u8], reading: Reading, guarded: bool) -> Header
+    ensures { λ r. ⌜ Headed guarded reading (now (q .entry)) r ⌝ }
+{
+    if q.len() == 0 {
+        return Header::Other;
+    }
+    let size = q[0] as usize;
+    if 128 <= size {
+        return Header::Other;
+    }
+    if size == 0 {
+        return Header::Other;
+    }
+    if q.len() < size {
+        return Header::Other;
+    }
+    let room = (q.len() - size) as u64;
+    let layout = layout_of(&q[1..size], reading, guarded, room);
+    let Layout::Fits { columns, left } = layout else {
+        return Header::Other;
+    };
+    match reading {
+        Reading::Old => Header::Size { size, columns },
+        Reading::File => {
+            if left == 0 {
+                return Header::Size { size, columns };
+            }
+            return Header::Other;
+        }
+    }
+}
+
+// The row that begins `s`, on a page of `usable` bytes.
+fn row_of(s: &[u8], reading: Reading, guarded: bool, usable: u32) -> Row
+    ensures { λ r. ⌜ Begun guarded reading usable (now (s .entry)) r ⌝ }
+{
+    let size = varint::read(s, varint::OLD_LIMIT);
+    let Varint::Value {
+        value: p,
+        length: a,
+    } = size
+    else {
+        return Row::Other;
+    };
+    let row = varint::read(&s[a..], varint::OLD_LIMIT);
+    let Varint::Value {
+        value: number,
+        length: b,
+    } = row
+    else {
+        return Row::Other;
+    };
+    let from = a + b;
+    let rest = &s[from..];
+    let most = cell::most_whole(Kind::LeafTable, usable);
+    let payload = cell::payload_of(rest, reading, most, p);
+    let Payload::Whole(n) = payload else {
+        return Row::Other;
+    };
+    let header = header_of(&rest[0..n], reading, guarded);
+    let Header::Size { size: h, columns } = header else {
+        return Row::Other;
+    };
+    Row::At(Place {
+        number,
+        columns,
+        from,
+        payload: n,
+        header: h,
+    })
+}
+
+// The row of cell `i` of a table leaf that lies in the bytes.
+fn found_on(db: &[u8], opened: Open, guarded: bool, i: usize) -> Found
+    requires { ⌜ (opened .kind ≡ LeafTable) × (liesIn (length (now db)) opened ≡ true) × (i < opened .cells) ⌝ }
+    ensures { λ r. ⌜ Says (rowIn guarded opened i (now (db .entry))) r ⌝ }
+{
+    let reading = opened.reading;
+    let start = opened.at;
+    let behind = start + opened.size;
+    let page = &db[start..behind];
+    let end = opened.end as usize;
+    let first = opened.from + 8;
+    let at = first + 2 * i;
+    let pointer = fields::be_u16(&page[at..]) as usize;
+    if pointer < first + 2 * opened.cells {
+        return Found::Other;
+    }
+    if end <= pointer {
+        return Found::Other;
+    }
+    let row = row_of(&page[pointer..end], reading, guarded, opened.end);
+    let Row::At(place) = row else {
+        return Found::Other;
+    };
+    let base = start + pointer + place.from;
+    Found::Row {
+        number: place.number,
+        columns: place.columns,
+        cursor: Cursor {
+            reading,
+            at: base + 1,
+            stop: base + place.header,
+            value: base + place.header,
+            end: base + place.payload,
+        },
+    }
+}
+
+// The row of cell `i` of a page that was opened.
+fn found_in(db: &[u8], opened: Open, guarded: bool, i: usize) -> Found
+    ensures { λ r. ⌜ Says (rowIn guarded opened i (now (db .entry))) r ⌝ }
+{
+    let kind = opened.kind;
+    match kind {
+        Kind::InteriorIndex => {
+            return Found::Other;
+        }
+        Kind::InteriorTable => {
+            return Found::Other;
+        }
+        Kind::LeafIndex => {
+            return Found::Other;
+        }
+        Kind::LeafTable => {
+            if opened.cells <= i {
+                return Found::Other;
+            }
+            if page::lies(db.len(), opened) {
+                return found_on(db, opened, guarded, i);
+            }
+            return Found::Other;
+        }
+    }
+}
+
+// THE PLAIN FORM, and which of the two answers
+
+fn plain_of(answer: FoundAnswer) -> RowAnswer
+    ensures { λ r. ⌜ r ≡ rowBy answer ⌝ }
+{
+    match answer {
+        FoundAnswer::Refused(refusal) => RowAnswer::Refused(refusal),
+        FoundAnswer::Shown {
+            kind: _,
+            cell,
+            cursor,
+        } => {
+            let row = cell.row;
+            RowAnswer::Shown {
+                number: row.value,
+                columns: cell.columns,
+                cursor,
+            }
+        }
+    }
+}
+
+// The row of cell `i` of a page that was opened, in the guarded reading or in that of the page.
+fn plain_in(db: &[u8], opened: Open, guarded: bool, i: usize) -> RowAnswer
+    ensures { λ r. ⌜ r ≡ rowIn guarded opened i (now (db .entry)) ⌝ }
+{
+    let answer = if guarded {
+        guarded::found_in(db, opened, i)
+    } else {
+        row::found_in(db, opened, i)
+    };
+    plain_of(answer)
+}
+
+// The same, by the short way where it says something.
+pub fn row_in(db: &[u8], opened: Open, guarded: bool, i: usize) -> RowAnswer
+    ensures { λ r. ⌜ r ≡ rowIn guarded opened i (now (db .entry)) ⌝ }
+{
+    let found = found_in(db, opened, guarded, i);
+    match found {
+        Found::Row {
+            number,
+            columns,
+            cursor,
+        } => RowAnswer::Shown {
+            number,
+            columns,
+            cursor,
+        },
+        Found::Other => plain_in(db, opened, guarded, i),
+    }
+}
