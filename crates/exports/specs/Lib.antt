@@ -3,3 +3,4 @@ pub mod Values
 pub mod Batch
 pub mod Whole
 pub mod Calls
+pub mod Agreement

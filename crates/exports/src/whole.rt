@@ -14,6 +14,7 @@ use crate::turns::integer_of;
 use crate::turns::long_of;
 use crate::turns::real_of;
 use crate::types::Filled;
+use crate::types::Value;
 use columns::Cursor;
 use columns::Stepped;
 use fields::be_i8;
@@ -58,22 +59,29 @@ fn shape_of(reading: Reading) -> Shape
     }
 }
 
+// Stores a value, and answers where it ends.
+fn put_at(table: &mut [i64], place: usize, value: Value, end: usize) -> usize
+    requires { ⌜ place + 5 ≤ length (now table) ⌝ }
+    ensures { λ r. ⌜ (r ≡ end) × (now (table .exit) ≡ sets (now (table .entry)) place (wordsOf value)) ⌝ }
+{
+    batch::put(table, place, value);
+    end
+}
+
 // Stores a text or a blob, and answers where it ends.
 fn put_long(table: &mut [i64], place: usize, least: u64, kind: u64, at: usize) -> usize
     requires { ⌜ (place + 5 ≤ length (now table)) × (12 ≤ kind) × (at + lengthOf kind < 2 ^ 64) ⌝ }
     ensures { λ r. ⌜ (r ≡ at + lengthOf kind) × (now (table .exit) ≡ sets (now (table .entry)) place (wordsOf (longFrom least kind at))) ⌝ }
 {
     let len = ((kind - 12) / 2) as usize;
+    let end = at + len;
     if kind < least {
-        batch::put(table, place, empty_value());
-        return at + len;
+        return put_at(table, place, empty_value(), end);
     }
     if kind % 2 == 0 {
-        batch::put(table, place, long_of(4, at, len));
-        return at + len;
+        return put_at(table, place, long_of(4, at, len), end);
     }
-    batch::put(table, place, long_of(3, at, len));
-    at + len
+    put_at(table, place, long_of(3, at, len), end)
 }
 
 // Stores the value of a type that has a width: its bytes begin the part, which stands at `at`. Answers where it ends.
@@ -90,46 +98,36 @@ fn put_value(
         × (now (table .exit) ≡ sets (now (table .entry)) place (wordsOf (valueBy shape kind at (now (part .entry))))) ⌝ }
 {
     match kind {
-        0 => {
-            batch::put(table, place, empty_value());
-            at
-        }
-        1 => {
-            batch::put(table, place, integer_of(shape.i8, be_i8(part) as i64));
-            at + 1
-        }
-        2 => {
-            batch::put(table, place, integer_of(shape.i16, be_i16(part) as i64));
-            at + 2
-        }
-        3 => {
-            batch::put(table, place, integer_of(shape.i32, be_i24(part) as i64));
-            at + 3
-        }
-        4 => {
-            batch::put(table, place, integer_of(shape.i32, be_i32(part) as i64));
-            at + 4
-        }
-        5 => {
-            batch::put(table, place, integer_of(shape.i64, be_i48(part)));
-            at + 6
-        }
-        6 => {
-            batch::put(table, place, integer_of(shape.i64, be_i64(part)));
-            at + 8
-        }
-        7 => {
-            batch::put(table, place, real_of(be_u64(part)));
-            at + 8
-        }
-        8 => {
-            batch::put(table, place, integer_of(shape.i8, 0));
-            at
-        }
-        9 => {
-            batch::put(table, place, integer_of(shape.i8, shape.one));
-            at
-        }
+        0 => put_at(table, place, empty_value(), at),
+        1 => put_at(
+            table,
+            place,
+            integer_of(shape.i8, be_i8(part) as i64),
+            at + 1,
+        ),
+        2 => put_at(
+            table,
+            place,
+            integer_of(shape.i16, be_i16(part) as i64),
+            at + 2,
+        ),
+        3 => put_at(
+            table,
+            place,
+            integer_of(shape.i32, be_i24(part) as i64),
+            at + 3,
+        ),
+        4 => put_at(
+            table,
+            place,
+            integer_of(shape.i32, be_i32(part) as i64),
+            at + 4,
+        ),
+        5 => put_at(table, place, integer_of(shape.i64, be_i48(part)), at + 6),
+        6 => put_at(table, place, integer_of(shape.i64, be_i64(part)), at + 8),
+        7 => put_at(table, place, real_of(be_u64(part)), at + 8),
+        8 => put_at(table, place, integer_of(shape.i8, 0), at),
+        9 => put_at(table, place, integer_of(shape.i8, shape.one), at),
         _ => put_long(table, place, shape.least, kind, at),
     }
 }

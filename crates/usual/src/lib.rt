@@ -38,38 +38,38 @@ pub enum RowAnswer {
 // WHAT THE SHORT WAY SAYS of a stage; nothing, where it is not usual or not well
 
 // How many bytes the value of a type takes.
-pub enum Width {
+enum Width {
     Bytes(u64),
     Other,
 }
 
 // How many columns there are, and how many bytes their values leave over.
-pub enum Layout {
+enum Layout {
     Fits { columns: usize, left: u64 },
     Other,
 }
 
 // The header size of a record, and its columns.
-pub enum Header {
+enum Header {
     Size { size: usize, columns: usize },
     Other,
 }
 
 // A row in its part of the page: where its payload begins, and how many bytes it takes.
-pub struct Place {
-    pub number: u64,
-    pub columns: usize,
-    pub from: usize,
-    pub payload: usize,
-    pub header: usize,
+struct Place {
+    number: u64,
+    columns: usize,
+    from: usize,
+    payload: usize,
+    header: usize,
 }
 
-pub enum Row {
+enum Row {
     At(Place),
     Other,
 }
 
-pub enum Found {
+enum Found {
     Row {
         number: u64,
         columns: usize,

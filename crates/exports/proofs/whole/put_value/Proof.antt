@@ -1,13 +1,12 @@
 -- At each type the definition computes to the reader that the code calls.
 use Prim.Native.Nat.{_+_}
-use mathlib.Core.Path.{_≡_, refl, sym, ap, _∙_}
+use mathlib.Core.Path.{_≡_, sym, ap, _∙_}
 use native.Mathlib.Nat.{add-zero}
 use native.Mathlib.Omega.{arith}
 use lib.Seq.{sets}
 use mir.Syntax.{w8, w16, w32, w64}
 use mir.Facts.{toZ-ofZ}
 use denote.Ref.{now}
-use borrow.Author.Needs.{needs}
 use Rattle.laws.proofs.Casts.{widen-fits, widen-same}
 use Rattle.serial.specs.Serial.{widthOf}
 use Rattle.serial.proofs.Laws.{ten}
@@ -15,14 +14,15 @@ use Rattle.exports.specs.Turns.{integerOf, realOf}
 use Rattle.exports.specs.Batch.{wordsOf}
 use Rattle.exports.specs.Whole.{longFrom, valueBy}
 use Rattle.exports.proofs.Shapes.{stored-as, by-long, long-width}
+use borrow.Author.Needs.{needs}
 use Rattle.exports.proofs.whole.put_value.Statement.{statement}
 use Rattle.exports.proofs.whole.put_value.Tie as tie
 
 empty-value-requires : tie.Need-empty-value-requires
 empty-value-requires c κs = search needs
 
-put-requires : tie.Need-put-requires
-put-requires c κs = search needs
+put-at-requires : tie.Need-put-at-requires
+put-at-requires c κs = search needs
 
 be-i8-requires : tie.Need-be-i8-requires
 be-i8-requires c κs = search needs
@@ -33,12 +33,12 @@ cast-integer-of c = widen-fits w8 (c .be-i8 .result) (c .be-i8 .ok) tt
 integer-of-requires : tie.Need-integer-of-requires
 integer-of-requires c κs = search needs
 
-put-requires-2 : tie.Need-put-requires-2
-put-requires-2 c κs = search needs
-
-add-result : tie.Need-add-result
+add-put-at : tie.Need-add-put-at
 unfolding widthOf
-add-result c = omega (arith, rw (c .before .before .before .before .before .match .keys2) at (c .before .before .before .before .before .before .before .pre .2))
+add-put-at c = omega (arith, rw (c .before .before .before .match .keys2) at (c .before .before .before .before .before .pre .2))
+
+put-at-requires-2 : tie.Need-put-at-requires-2
+put-at-requires-2 c κs = search needs
 
 be-i16-requires : tie.Need-be-i16-requires
 be-i16-requires c κs = search needs
@@ -49,12 +49,12 @@ cast-integer-of-2 c = widen-fits w16 (c .be-i16 .result) (c .be-i16 .ok) tt
 integer-of-requires-2 : tie.Need-integer-of-requires-2
 integer-of-requires-2 c κs = search needs
 
-put-requires-3 : tie.Need-put-requires-3
-put-requires-3 c κs = search needs
-
-add-result-2 : tie.Need-add-result-2
+add-put-at-2 : tie.Need-add-put-at-2
 unfolding widthOf
-add-result-2 c = omega (arith, rw (c .before .before .before .before .before .match .keys3) at (c .before .before .before .before .before .before .before .pre .2))
+add-put-at-2 c = omega (arith, rw (c .before .before .before .match .keys3) at (c .before .before .before .before .before .pre .2))
+
+put-at-requires-3 : tie.Need-put-at-requires-3
+put-at-requires-3 c κs = search needs
 
 be-i24-requires : tie.Need-be-i24-requires
 be-i24-requires c κs = search needs
@@ -65,12 +65,12 @@ cast-integer-of-3 c = widen-fits w32 (c .be-i24 .result) (c .be-i24 .ok) tt
 integer-of-requires-3 : tie.Need-integer-of-requires-3
 integer-of-requires-3 c κs = search needs
 
-put-requires-4 : tie.Need-put-requires-4
-put-requires-4 c κs = search needs
-
-add-result-3 : tie.Need-add-result-3
+add-put-at-3 : tie.Need-add-put-at-3
 unfolding widthOf
-add-result-3 c = omega (arith, rw (c .before .before .before .before .before .match .keys4) at (c .before .before .before .before .before .before .before .pre .2))
+add-put-at-3 c = omega (arith, rw (c .before .before .before .match .keys4) at (c .before .before .before .before .before .pre .2))
+
+put-at-requires-4 : tie.Need-put-at-requires-4
+put-at-requires-4 c κs = search needs
 
 be-i32-requires : tie.Need-be-i32-requires
 be-i32-requires c κs = search needs
@@ -81,12 +81,12 @@ cast-integer-of-4 c = widen-fits w32 (c .be-i32 .result) (c .be-i32 .ok) tt
 integer-of-requires-4 : tie.Need-integer-of-requires-4
 integer-of-requires-4 c κs = search needs
 
-put-requires-5 : tie.Need-put-requires-5
-put-requires-5 c κs = search needs
-
-add-result-4 : tie.Need-add-result-4
+add-put-at-4 : tie.Need-add-put-at-4
 unfolding widthOf
-add-result-4 c = omega (arith, rw (c .before .before .before .before .before .match .keys5) at (c .before .before .before .before .before .before .before .pre .2))
+add-put-at-4 c = omega (arith, rw (c .before .before .before .match .keys5) at (c .before .before .before .before .before .pre .2))
+
+put-at-requires-5 : tie.Need-put-at-requires-5
+put-at-requires-5 c κs = search needs
 
 be-i48-requires : tie.Need-be-i48-requires
 be-i48-requires c κs = search needs
@@ -94,12 +94,12 @@ be-i48-requires c κs = search needs
 integer-of-requires-5 : tie.Need-integer-of-requires-5
 integer-of-requires-5 c κs = search needs
 
-put-requires-6 : tie.Need-put-requires-6
-put-requires-6 c κs = search needs
-
-add-result-5 : tie.Need-add-result-5
+add-put-at-5 : tie.Need-add-put-at-5
 unfolding widthOf
-add-result-5 c = omega (arith, rw (c .before .before .before .before .before .match .keys6) at (c .before .before .before .before .before .before .before .pre .2))
+add-put-at-5 c = omega (arith, rw (c .before .before .before .match .keys6) at (c .before .before .before .before .before .pre .2))
+
+put-at-requires-6 : tie.Need-put-at-requires-6
+put-at-requires-6 c κs = search needs
 
 be-i64-requires : tie.Need-be-i64-requires
 be-i64-requires c κs = search needs
@@ -107,12 +107,12 @@ be-i64-requires c κs = search needs
 integer-of-requires-6 : tie.Need-integer-of-requires-6
 integer-of-requires-6 c κs = search needs
 
-put-requires-7 : tie.Need-put-requires-7
-put-requires-7 c κs = search needs
-
-add-result-6 : tie.Need-add-result-6
+add-put-at-6 : tie.Need-add-put-at-6
 unfolding widthOf
-add-result-6 c = omega (arith, rw (c .before .before .before .before .before .match .keys7) at (c .before .before .before .before .before .before .before .pre .2))
+add-put-at-6 c = omega (arith, rw (c .before .before .before .match .keys7) at (c .before .before .before .before .before .pre .2))
+
+put-at-requires-7 : tie.Need-put-at-requires-7
+put-at-requires-7 c κs = search needs
 
 be-u64-requires : tie.Need-be-u64-requires
 be-u64-requires c κs = search needs
@@ -120,28 +120,27 @@ be-u64-requires c κs = search needs
 real-of-requires : tie.Need-real-of-requires
 real-of-requires c κs = search needs
 
-put-requires-8 : tie.Need-put-requires-8
-put-requires-8 c κs = search needs
-
-add-result-7 : tie.Need-add-result-7
+add-put-at-7 : tie.Need-add-put-at-7
 unfolding widthOf
-add-result-7 c = omega (arith, rw (c .before .before .before .before .before .match .keys8) at (c .before .before .before .before .before .before .before .pre .2))
+add-put-at-7 c = omega (arith, rw (c .before .before .before .match .keys8) at (c .before .before .before .before .before .pre .2))
+
+put-at-requires-8 : tie.Need-put-at-requires-8
+put-at-requires-8 c κs = search needs
 
 integer-of-requires-7 : tie.Need-integer-of-requires-7
 integer-of-requires-7 c κs = search needs
 
-put-requires-9 : tie.Need-put-requires-9
-put-requires-9 c κs = search needs
+put-at-requires-9 : tie.Need-put-at-requires-9
+put-at-requires-9 c κs = search needs
 
 integer-of-requires-8 : tie.Need-integer-of-requires-8
 integer-of-requires-8 c κs = search needs
 
-put-requires-10 : tie.Need-put-requires-10
-put-requires-10 c κs = search needs
+put-at-requires-10 : tie.Need-put-at-requires-10
+put-at-requires-10 c κs = search needs
 
 put-long-requires : tie.Need-put-long-requires
-put-long-requires c κs =
-    let a = c .before .before .before .args in
+put-long-requires c κs = let a = c .before .before .before .args in
     let p = c .before .before .before .pre in
     let l = long-width (a .kind) (ten (c .before .match .rest)) (p .1) in
     (p .0, l .0, rw (l .1) at (p .2))
@@ -151,104 +150,113 @@ same-length c = search needs
 
 returns : tie.Need-returns
 unfolding valueBy widthOf
-returns c =
-    let a = c .before .before .before .before .before .before .args in
-    stored-as (a .shape) (a .kind) (a .at) (now (a .part)) (now (a .table)) (a .place) (c .before .before .before .before .match .keys1) (sym (add-zero (a .at))) (c .before .before .empty-value .ensures) (c .before .put .ensures)
+returns c = let a = c .before .before .before .before .before .before .args in
+    stored-as (a .shape) (a .kind) (a .at) (now (a .part)) (now (a .table)) (a .place) (c .before .before .before .before .match .keys1) (c .before .put-at .ensures .0 ∙ sym (add-zero (a .at)))
+    (c .before .before .empty-value .ensures)
+    (c .before .put-at .ensures .1)
 
 same-length-2 : tie.Need-same-length-2
 same-length-2 c = search needs
 
 returns-2 : tie.Need-returns-2
 unfolding valueBy widthOf
-returns-2 c =
-    let a = c .before .before .before .before .before .before .before .args in
+returns-2 c = let a = c .before .before .before .before .before .before .before .args in
     let b = c .before .before .before .be-i8 in
-    stored-as (a .shape) (a .kind) (a .at) (now (a .part)) (now (a .table)) (a .place) (c .before .before .before .before .before .match .keys2) refl (c .before .before .integer-of .ensures ∙ ap (integerOf (a .shape .i8)) (widen-same w8 (b .result) (b .ok) tt ∙ b .ensures)) (c .before .put2 .ensures)
+    stored-as (a .shape) (a .kind) (a .at) (now (a .part)) (now (a .table)) (a .place) (c .before .before .before .before .before .match .keys2) (c .before .put-at2 .ensures .0)
+    (c .before .before .integer-of .ensures ∙ ap (integerOf (a .shape .i8)) (widen-same w8 (b .result) (b .ok) tt ∙ b .ensures))
+    (c .before .put-at2 .ensures .1)
 
 same-length-3 : tie.Need-same-length-3
 same-length-3 c = search needs
 
 returns-3 : tie.Need-returns-3
 unfolding valueBy widthOf
-returns-3 c =
-    let a = c .before .before .before .before .before .before .before .args in
+returns-3 c = let a = c .before .before .before .before .before .before .before .args in
     let b = c .before .before .before .be-i16 in
-    stored-as (a .shape) (a .kind) (a .at) (now (a .part)) (now (a .table)) (a .place) (c .before .before .before .before .before .match .keys3) refl (c .before .before .integer-of2 .ensures ∙ ap (integerOf (a .shape .i16)) (widen-same w16 (b .result) (b .ok) tt ∙ b .ensures)) (c .before .put3 .ensures)
+    stored-as (a .shape) (a .kind) (a .at) (now (a .part)) (now (a .table)) (a .place) (c .before .before .before .before .before .match .keys3) (c .before .put-at3 .ensures .0)
+    (c .before .before .integer-of2 .ensures ∙ ap (integerOf (a .shape .i16)) (widen-same w16 (b .result) (b .ok) tt ∙ b .ensures))
+    (c .before .put-at3 .ensures .1)
 
 same-length-4 : tie.Need-same-length-4
 same-length-4 c = search needs
 
 returns-4 : tie.Need-returns-4
 unfolding valueBy widthOf
-returns-4 c =
-    let a = c .before .before .before .before .before .before .before .args in
+returns-4 c = let a = c .before .before .before .before .before .before .before .args in
     let b = c .before .before .before .be-i24 in
-    stored-as (a .shape) (a .kind) (a .at) (now (a .part)) (now (a .table)) (a .place) (c .before .before .before .before .before .match .keys4) refl (c .before .before .integer-of3 .ensures ∙ ap (integerOf (a .shape .i32)) (widen-same w32 (b .result) (b .ok) tt ∙ b .ensures)) (c .before .put4 .ensures)
+    stored-as (a .shape) (a .kind) (a .at) (now (a .part)) (now (a .table)) (a .place) (c .before .before .before .before .before .match .keys4) (c .before .put-at4 .ensures .0)
+    (c .before .before .integer-of3 .ensures ∙ ap (integerOf (a .shape .i32)) (widen-same w32 (b .result) (b .ok) tt ∙ b .ensures))
+    (c .before .put-at4 .ensures .1)
 
 same-length-5 : tie.Need-same-length-5
 same-length-5 c = search needs
 
 returns-5 : tie.Need-returns-5
 unfolding valueBy widthOf
-returns-5 c =
-    let a = c .before .before .before .before .before .before .before .args in
+returns-5 c = let a = c .before .before .before .before .before .before .before .args in
     let b = c .before .before .before .be-i32 in
-    stored-as (a .shape) (a .kind) (a .at) (now (a .part)) (now (a .table)) (a .place) (c .before .before .before .before .before .match .keys5) refl (c .before .before .integer-of4 .ensures ∙ ap (integerOf (a .shape .i32)) (widen-same w32 (b .result) (b .ok) tt ∙ b .ensures)) (c .before .put5 .ensures)
+    stored-as (a .shape) (a .kind) (a .at) (now (a .part)) (now (a .table)) (a .place) (c .before .before .before .before .before .match .keys5) (c .before .put-at5 .ensures .0)
+    (c .before .before .integer-of4 .ensures ∙ ap (integerOf (a .shape .i32)) (widen-same w32 (b .result) (b .ok) tt ∙ b .ensures))
+    (c .before .put-at5 .ensures .1)
 
 same-length-6 : tie.Need-same-length-6
 same-length-6 c = search needs
 
 returns-6 : tie.Need-returns-6
 unfolding valueBy widthOf
-returns-6 c =
-    let a = c .before .before .before .before .before .before .before .args in
+returns-6 c = let a = c .before .before .before .before .before .before .before .args in
     let b = c .before .before .before .be-i48 in
-    stored-as (a .shape) (a .kind) (a .at) (now (a .part)) (now (a .table)) (a .place) (c .before .before .before .before .before .match .keys6) refl (c .before .before .integer-of5 .ensures ∙ ap (integerOf (a .shape .i64)) (toZ-ofZ {w = w64} (record { sfits = b .ok }) ∙ b .ensures)) (c .before .put6 .ensures)
+    stored-as (a .shape) (a .kind) (a .at) (now (a .part)) (now (a .table)) (a .place) (c .before .before .before .before .before .match .keys6) (c .before .put-at6 .ensures .0)
+    (c .before .before .integer-of5 .ensures ∙ ap (integerOf (a .shape .i64)) (toZ-ofZ {w = w64} (record { sfits = b .ok }) ∙ b .ensures))
+    (c .before .put-at6 .ensures .1)
 
 same-length-7 : tie.Need-same-length-7
 same-length-7 c = search needs
 
 returns-7 : tie.Need-returns-7
 unfolding valueBy widthOf
-returns-7 c =
-    let a = c .before .before .before .before .before .before .before .args in
+returns-7 c = let a = c .before .before .before .before .before .before .before .args in
     let b = c .before .before .before .be-i64 in
-    stored-as (a .shape) (a .kind) (a .at) (now (a .part)) (now (a .table)) (a .place) (c .before .before .before .before .before .match .keys7) refl (c .before .before .integer-of6 .ensures ∙ ap (integerOf (a .shape .i64)) (toZ-ofZ {w = w64} (record { sfits = b .ok }) ∙ b .ensures)) (c .before .put7 .ensures)
+    stored-as (a .shape) (a .kind) (a .at) (now (a .part)) (now (a .table)) (a .place) (c .before .before .before .before .before .match .keys7) (c .before .put-at7 .ensures .0)
+    (c .before .before .integer-of6 .ensures ∙ ap (integerOf (a .shape .i64)) (toZ-ofZ {w = w64} (record { sfits = b .ok }) ∙ b .ensures))
+    (c .before .put-at7 .ensures .1)
 
 same-length-8 : tie.Need-same-length-8
 same-length-8 c = search needs
 
 returns-8 : tie.Need-returns-8
 unfolding valueBy widthOf
-returns-8 c =
-    let a = c .before .before .before .before .before .before .before .args in
+returns-8 c = let a = c .before .before .before .before .before .before .before .args in
     let b = c .before .before .before .be-u64 in
-    stored-as (a .shape) (a .kind) (a .at) (now (a .part)) (now (a .table)) (a .place) (c .before .before .before .before .before .match .keys8) refl (c .before .before .real-of .ensures ∙ ap realOf (b .ensures)) (c .before .put8 .ensures)
+    stored-as (a .shape) (a .kind) (a .at) (now (a .part)) (now (a .table)) (a .place) (c .before .before .before .before .before .match .keys8) (c .before .put-at8 .ensures .0)
+    (c .before .before .real-of .ensures ∙ ap realOf (b .ensures))
+    (c .before .put-at8 .ensures .1)
 
 same-length-9 : tie.Need-same-length-9
 same-length-9 c = search needs
 
 returns-9 : tie.Need-returns-9
 unfolding valueBy widthOf
-returns-9 c =
-    let a = c .before .before .before .before .before .before .args in
-    stored-as (a .shape) (a .kind) (a .at) (now (a .part)) (now (a .table)) (a .place) (c .before .before .before .before .match .keys9) (sym (add-zero (a .at))) (c .before .before .integer-of7 .ensures) (c .before .put9 .ensures)
+returns-9 c = let a = c .before .before .before .before .before .before .args in
+    stored-as (a .shape) (a .kind) (a .at) (now (a .part)) (now (a .table)) (a .place) (c .before .before .before .before .match .keys9) (c .before .put-at9 .ensures .0 ∙ sym (add-zero (a .at)))
+    (c .before .before .integer-of7 .ensures)
+    (c .before .put-at9 .ensures .1)
 
 same-length-10 : tie.Need-same-length-10
 same-length-10 c = search needs
 
 returns-10 : tie.Need-returns-10
 unfolding valueBy widthOf
-returns-10 c =
-    let a = c .before .before .before .before .before .before .before .args in
-    stored-as (a .shape) (a .kind) (a .at) (now (a .part)) (now (a .table)) (a .place) (c .before .before .before .before .before .match .keys10) (sym (add-zero (a .at))) (c .before .before .integer-of8 .ensures ∙ ap (integerOf (a .shape .i8)) (toZ-ofZ {w = w64} {z = a .shape .one} (record { sfits = c .before .before .before .struct-told .given .1 .1 .1 .1 .0 .1 }))) (c .before .put10 .ensures)
+returns-10 c = let a = c .before .before .before .before .before .before .before .args in
+    stored-as (a .shape) (a .kind) (a .at) (now (a .part)) (now (a .table)) (a .place) (c .before .before .before .before .before .match .keys10) (c .before .put-at10 .ensures .0 ∙ sym (add-zero (a .at)))
+    (c .before .before .integer-of8 .ensures ∙ ap (integerOf (a .shape .i8)) (toZ-ofZ {w = w64} {z = a .shape .one} (record { sfits = c .before .before .before .struct-told .given .1 .1 .1 .1 .0 .1 })))
+    (c .before .put-at10 .ensures .1)
 
 same-length-11 : tie.Need-same-length-11
 same-length-11 c = search needs
 
 returns-11 : tie.Need-returns-11
-returns-11 c =
-    let a = c .before .before .before .before .before .args in
+returns-11 c = let a = c .before .before .before .before .before .args in
     let h = ten (c .before .before .before .match .rest) in
     let l = long-width (a .kind) h (c .before .before .before .before .before .pre .1) in
     let e : longFrom (a .shape .least) (a .kind) (a .at) ≡ valueBy (a .shape) (a .kind) (a .at) (now (a .part)) = sym (by-long (a .shape) (a .kind) (a .at) (now (a .part)) h) in
@@ -259,43 +267,43 @@ put-value-spec =
     tie.close
     (tie.spec
     empty-value-requires
-    put-requires
+    put-at-requires
     be-i8-requires
     cast-integer-of
     integer-of-requires
-    put-requires-2
-    add-result
+    add-put-at
+    put-at-requires-2
     be-i16-requires
     cast-integer-of-2
     integer-of-requires-2
-    put-requires-3
-    add-result-2
+    add-put-at-2
+    put-at-requires-3
     be-i24-requires
     cast-integer-of-3
     integer-of-requires-3
-    put-requires-4
-    add-result-3
+    add-put-at-3
+    put-at-requires-4
     be-i32-requires
     cast-integer-of-4
     integer-of-requires-4
-    put-requires-5
-    add-result-4
+    add-put-at-4
+    put-at-requires-5
     be-i48-requires
     integer-of-requires-5
-    put-requires-6
-    add-result-5
+    add-put-at-5
+    put-at-requires-6
     be-i64-requires
     integer-of-requires-6
-    put-requires-7
-    add-result-6
+    add-put-at-6
+    put-at-requires-7
     be-u64-requires
     real-of-requires
-    put-requires-8
-    add-result-7
+    add-put-at-7
+    put-at-requires-8
     integer-of-requires-7
-    put-requires-9
+    put-at-requires-9
     integer-of-requires-8
-    put-requires-10
+    put-at-requires-10
     put-long-requires
     same-length
     returns
