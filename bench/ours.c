@@ -7,10 +7,10 @@
 #include "shorgavel.h"
 #include "shown.h"
 
-/* All columns of a row come by one call, up to so many; more places cost nothing where they are not filled. */
+/* A row comes by one call with all of its columns, up to so many; more places cost nothing where they are not filled. */
 enum { TABLE_LEAF = 13, PLACES = 64 };
 
-typedef enum { OLD, FILED, GUARDED } reading;
+typedef uint8_t reading;
 
 /* Each reading has a pass of its own, with its calls in it, so that no row asks which reading it is. */
 #define FOR_EACH_READING static inline __attribute__((always_inline))
@@ -21,10 +21,10 @@ static void fail(const char *why) {
 }
 
 static reading named(const char *name) {
-    if (strcmp(name, "old") == 0) return OLD;
-    if (strcmp(name, "file") == 0) return FILED;
+    if (strcmp(name, "old") == 0) return SHORGAVEL_OLD;
+    if (strcmp(name, "file") == 0) return SHORGAVEL_FILE;
     if (strcmp(name, "guarded") != 0) fail("the readings are old, file and guarded");
-    return GUARDED;
+    return SHORGAVEL_GUARDED;
 }
 
 static uint8_t *load(const char *name, size_t *length) {
@@ -48,48 +48,40 @@ static inline void show_value(shown *s, const uint8_t *db, const shorgavel_value
     }
 }
 
-/* The guarded reading has the file reading's header. */
-static inline uint8_t number_of(reading r) { return r == OLD ? SHORGAVEL_OLD : SHORGAVEL_FILE; }
-
-FOR_EACH_READING shorgavel_opening open_page(reading r, const uint8_t *db, size_t length, uint32_t page) {
-    if (r == GUARDED) return shorgavel_guarded_open(db, length, page);
-    return shorgavel_open(db, length, number_of(r), page);
-}
-
-FOR_EACH_READING shorgavel_cell cell_of(reading r, const uint8_t *db, size_t length, const shorgavel_opened *page,
-                                        size_t cell) {
-    if (r == GUARDED) return shorgavel_guarded_cell_in(db, length, *page, cell);
-    return shorgavel_cell_in(db, length, *page, cell);
-}
-
 FOR_EACH_READING shorgavel_filled fill(reading r, const uint8_t *db, size_t length, shorgavel_along along,
                                        shorgavel_value *table) {
-    if (r == OLD) return shorgavel_old_values(db, length, along, table, SHORGAVEL_WORDS(PLACES));
+    if (r == SHORGAVEL_OLD) return shorgavel_old_values(db, length, along, table, SHORGAVEL_WORDS(PLACES));
     return shorgavel_file_values(db, length, along, table, SHORGAVEL_WORDS(PLACES));
 }
 
-/* A row, table by table, until all of its columns are shown. */
-FOR_EACH_READING void show_cell(reading r, shown *s, const uint8_t *db, size_t length, const shorgavel_cell *cell) {
-    shorgavel_value table[PLACES];
-    shorgavel_along along = cell->along;
-    show_row(s, cell->row);
-    for (size_t left = cell->columns; left > 0;) {
+static inline void show_values(shown *s, const uint8_t *db, const shorgavel_value *table, size_t count) {
+    for (size_t i = 0; i < count; i++) show_value(s, db, &table[i]);
+}
+
+/* A row whose first columns are in the table; the others follow, table by table. */
+FOR_EACH_READING void show_cell(reading r, shown *s, const uint8_t *db, size_t length, const shorgavel_row *row,
+                                shorgavel_value *table) {
+    show_row(s, row->number);
+    show_values(s, db, table, row->count);
+    shorgavel_along along = row->along;
+    for (size_t left = row->columns - row->count; left > 0;) {
         shorgavel_filled f = fill(r, db, length, along, table);
-        for (size_t i = 0; i < f.count; i++) show_value(s, db, &table[i]);
+        show_values(s, db, table, f.count);
         along = f.along;
         left -= f.count;
     }
 }
 
 FOR_EACH_READING shown pass(reading r, const uint8_t *db, size_t length, uint32_t pages) {
-    uint32_t first = r == OLD ? 0 : 1;
+    uint32_t first = r == SHORGAVEL_OLD ? 0 : 1;
     shown s = {0, 0, 0, 0};
+    shorgavel_value table[PLACES];
     for (uint32_t page = first; page < first + pages; page++) {
-        shorgavel_opening o = open_page(r, db, length, page);
+        shorgavel_opening o = shorgavel_open(db, length, r, page);
         if (o.refused.number != 0 || o.opened.kind != TABLE_LEAF) continue;
         for (size_t i = 0; i < o.opened.cells; i++) {
-            shorgavel_cell cell = cell_of(r, db, length, &o.opened, i);
-            if (cell.refused.number == 0) show_cell(r, &s, db, length, &cell);
+            shorgavel_row row = shorgavel_row_in(db, length, o.opened, i, table, SHORGAVEL_WORDS(PLACES));
+            if (row.refused.number == 0) show_cell(r, &s, db, length, &row, table);
         }
     }
     return s;
@@ -97,9 +89,9 @@ FOR_EACH_READING shown pass(reading r, const uint8_t *db, size_t length, uint32_
 
 static shown pass_of(reading r, const uint8_t *db, size_t length, uint32_t pages) {
     switch (r) {
-    case OLD: return pass(OLD, db, length, pages);
-    case FILED: return pass(FILED, db, length, pages);
-    default: return pass(GUARDED, db, length, pages);
+    case SHORGAVEL_OLD: return pass(SHORGAVEL_OLD, db, length, pages);
+    case SHORGAVEL_FILE: return pass(SHORGAVEL_FILE, db, length, pages);
+    default: return pass(SHORGAVEL_GUARDED, db, length, pages);
     }
 }
 
@@ -108,7 +100,7 @@ int main(int count, char **words) {
     reading r = named(words[1]);
     size_t length;
     uint8_t *db = load(words[2], &length);
-    shorgavel_header_answer h = shorgavel_header(db, length, number_of(r));
+    shorgavel_header_answer h = shorgavel_header(db, length, r);
     if (h.refused.number != 0) fail("the header is refused");
     shown s = {0, 0, 0, 0};
     for (int left = atoi(words[3]); left > 0; left--) s = pass_of(r, db, length, (uint32_t)(length / h.fields.page_size));

@@ -26,8 +26,9 @@ typedef struct {
     size_t column;
 } shorgavel_refused;
 
-/* READINGS, where a call is told one by its number; any other number is taken for the file reading. */
-enum { SHORGAVEL_OLD = 0, SHORGAVEL_FILE = 1 };
+/* READINGS, where a call is told one by its number; any other number is taken for the file reading. So is guarded's, but where
+ * a page is opened. */
+enum { SHORGAVEL_OLD = 0, SHORGAVEL_FILE = 1, SHORGAVEL_GUARDED = 2 };
 
 /* THE DATABASE AND ITS PAGES */
 
@@ -102,17 +103,18 @@ shorgavel_page_answer shorgavel_entries(const uint8_t *db, size_t length, uint8_
 /* The entry of a cell of a page. */
 shorgavel_cell_entry shorgavel_entry(const uint8_t *db, size_t length, uint8_t reading, uint32_t page, size_t cell);
 
-/* A PAGE THAT IS OPENED, for reading one cell of it after another with no check of header and page made again */
+/* A PAGE THAT IS OPENED, for reading one cell of it after another by shorgavel_row_in, with no check of header and page made
+ * again */
 
 /* It is handed back as it was answered, with the same database. */
 typedef struct {
-    uint8_t reading;
-    uint8_t kind; /* the format's byte: 2, 5, 10 or 13 */
-    uint32_t end; /* where its cells end */
-    size_t at;    /* where the page lies in the database, and its size */
+    uint8_t reading; /* the one in which it was opened */
+    uint8_t kind;    /* the format's byte: 2, 5, 10 or 13 */
+    uint32_t end;    /* where its cells end */
+    size_t at;       /* where the page lies in the database, and its size */
     size_t size;
-    size_t from;  /* where its header stands in it */
-    size_t cells; /* how many cells it has */
+    size_t from;     /* where its header stands in it */
+    size_t cells;    /* how many cells it has */
 } shorgavel_opened;
 
 typedef struct {
@@ -120,11 +122,8 @@ typedef struct {
     shorgavel_opened opened;
 } shorgavel_opening;
 
-/* The page, its cells being looked at by no check yet. */
+/* The page, its cells being looked at by no check yet. The guarded reading opens table leaves alone. */
 shorgavel_opening shorgavel_open(const uint8_t *db, size_t length, uint8_t reading, uint32_t page);
-
-/* The page if it is a table leaf, for the guarded reading. */
-shorgavel_opening shorgavel_guarded_open(const uint8_t *db, size_t length, uint32_t page);
 
 /* ONE CELL: it is checked by itself, whatever other cells are like. */
 
@@ -143,12 +142,6 @@ typedef struct {
     size_t columns;
     shorgavel_along along;
 } shorgavel_cell;
-
-/* A cell of a page that shorgavel_open opened: what shorgavel_old_cell or shorgavel_file_cell answers for it. */
-shorgavel_cell shorgavel_cell_in(const uint8_t *db, size_t length, shorgavel_opened page, size_t cell);
-
-/* A cell of a page that shorgavel_guarded_open opened: what shorgavel_guarded_cell answers for it. */
-shorgavel_cell shorgavel_guarded_cell_in(const uint8_t *db, size_t length, shorgavel_opened page, size_t cell);
 
 /* The cell as the old reading has it. */
 shorgavel_cell shorgavel_old_cell(const uint8_t *db, size_t length, uint32_t page, size_t cell);
@@ -190,18 +183,35 @@ typedef struct {
     shorgavel_value value;
 } shorgavel_shown;
 
-/* The size of a table of so many places, as the two calls below are told it: in words of 64 bits. */
+/* The size of a table of so many places, as the three calls below are told it: in words of 64 bits. */
 #define SHORGAVEL_WORDS(places) ((places) * (sizeof(shorgavel_value) / sizeof(int64_t)))
+
+/* A row with its values. */
+typedef struct {
+    shorgavel_refused refused;
+    int64_t number;        /* row number or key */
+    size_t columns;
+    size_t count;          /* how many of its values are in the table */
+    shorgavel_along along; /* the cursor behind them */
+} shorgavel_row;
+
+/* A cell of a page that shorgavel_open opened, in the page's reading, with its values in the table: as many as it has and as
+ * the table has places. The others, if any, come by the calls below, from the cursor on. It answers what the calls on one
+ * cell and the calls below answer, at a fraction of their cost. On a refusal the table is left as it was, and so are its
+ * places behind the last value. The pointer is not null, also where there is no place; then the cursor is the one before
+ * the first column. */
+shorgavel_row shorgavel_row_in(const uint8_t *db, size_t length, shorgavel_opened page, size_t cell,
+                               shorgavel_value *table, size_t words);
 
 /* The values of a row from a cursor on, into a table: as many as there are and as it has places. Fewer than its places are
  * stored where the row ends; places behind them are left as they were. The pointer is not null, also where there is no
  * place. */
 
-/* Of a row whose cursor came from an old cell. */
+/* Of a row whose cursor came from an old cell, or from a row of a page that was opened in the old reading. */
 shorgavel_filled shorgavel_old_values(const uint8_t *db, size_t length, shorgavel_along along, shorgavel_value *table,
                                       size_t words);
 
-/* Of a row whose cursor came from a file cell or a guarded one. */
+/* Of a row whose cursor came from a file cell or a guarded one, or from a row of a page that was opened in either. */
 shorgavel_filled shorgavel_file_values(const uint8_t *db, size_t length, shorgavel_along along, shorgavel_value *table,
                                        size_t words);
 

@@ -112,15 +112,6 @@ pub struct Along {
     pub end: usize,
 }
 
-/// A cell: its row number or key, its column count and the cursor before its first column.
-#[repr(C)]
-pub struct Cell {
-    pub refused: Refused,
-    pub row: i64,
-    pub columns: usize,
-    pub along: Along,
-}
-
 /// The kinds of values; any other number is null.
 pub const INTEGER: u8 = 1;
 pub const REAL: u8 = 2;
@@ -141,9 +132,12 @@ pub struct Value {
 /// The size of a table of values is told in words of 64 bits: so many a place.
 const WORDS: usize = size_of::<Value>() / size_of::<i64>();
 
-/// How many values a table was filled with, and the cursor behind the last of them.
+/// A row: its row number or key, its column count, how many of its values are in the table, and the cursor behind them.
 #[repr(C)]
-pub struct Filled {
+pub struct Row {
+    pub refused: Refused,
+    pub number: i64,
+    pub columns: usize,
     pub count: usize,
     pub along: Along,
 }
@@ -166,11 +160,14 @@ extern "C" {
         places: usize,
     ) -> PageAnswer;
     fn shorgavel_open(db: *const u8, length: usize, reading: u8, page: u32) -> Opening;
-    fn shorgavel_guarded_open(db: *const u8, length: usize, page: u32) -> Opening;
-    fn shorgavel_cell_in(db: *const u8, length: usize, page: Opened, cell: usize) -> Cell;
-    fn shorgavel_guarded_cell_in(db: *const u8, length: usize, page: Opened, cell: usize) -> Cell;
-    fn shorgavel_old_values(db: *const u8, length: usize, along: Along, table: *mut i64, words: usize) -> Filled;
-    fn shorgavel_file_values(db: *const u8, length: usize, along: Along, table: *mut i64, words: usize) -> Filled;
+    fn shorgavel_row_in(
+        db: *const u8,
+        length: usize,
+        page: Opened,
+        cell: usize,
+        table: *mut Value,
+        words: usize,
+    ) -> Row;
     fn shorgavel_old_value(db: *const u8, length: usize, page: u32, cell: usize, column: usize) -> Shown;
     fn shorgavel_file_value(db: *const u8, length: usize, page: u32, cell: usize, column: usize) -> Shown;
     fn shorgavel_guarded_value(db: *const u8, length: usize, page: u32, cell: usize, column: usize) -> Shown;
@@ -201,43 +198,24 @@ pub fn open(db: &[u8], reading: u8, page: u32) -> Opening {
     unsafe { shorgavel_open(db.as_ptr(), db.len(), reading, page) }
 }
 
-/// The page if it is a table leaf.
-pub fn guarded_open(db: &[u8], page: u32) -> Opening {
-    // SAFETY: as for `open`.
-    unsafe { shorgavel_guarded_open(db.as_ptr(), db.len(), page) }
-}
-
-/// A cell of a page that `open` opened.
+/// A cell of a page that `open` opened, in the page's reading, and in the table its values, in place of those that were
+/// there: as many as the table takes without growing.
 #[inline]
-pub fn cell_in(db: &[u8], page: Opened, cell: usize) -> Cell {
+pub fn row_in(db: &[u8], page: &Opened, cell: usize, table: &mut Vec<Value>) -> Row {
+    let words = table.capacity() * WORDS;
     // SAFETY: pointer and length are of one slice. The page is handed over by value, and the call answers for every one,
-    // also for numbers that no page of these bytes has.
-    unsafe { shorgavel_cell_in(db.as_ptr(), db.len(), page, cell) }
-}
-
-/// A cell of a page that `guarded_open` opened.
-#[inline]
-pub fn guarded_cell_in(db: &[u8], page: Opened, cell: usize) -> Cell {
-    // SAFETY: as for `cell_in`.
-    unsafe { shorgavel_guarded_cell_in(db.as_ptr(), db.len(), page, cell) }
-}
-
-/// The values of a row from a cursor on, in the old reading, into the table: as many as there are and as it has places.
-#[inline]
-pub fn old_values(db: &[u8], along: Along, table: &mut [Value]) -> Filled {
-    // SAFETY: pointer and length are of one slice. The cursor is handed over by value, and the call answers for every
-    // one, also for numbers that no row of these bytes has. A place of the table is five words and lies as words must, as
-    // the test below holds; so the table has as many words as are told, and no more are written. It is lent alone, so
-    // nothing else sees it while it is written. Whatever words are written, each place is a value again, since every
-    // pattern of bits is one in each of its fields, and what is between them may be anything.
-    unsafe { shorgavel_old_values(db.as_ptr(), db.len(), along, table.as_mut_ptr().cast(), table.len() * WORDS) }
-}
-
-/// The same in the file reading or the guarded one.
-#[inline]
-pub fn file_values(db: &[u8], along: Along, table: &mut [Value]) -> Filled {
-    // SAFETY: as for `old_values`.
-    unsafe { shorgavel_file_values(db.as_ptr(), db.len(), along, table.as_mut_ptr().cast(), table.len() * WORDS) }
+    // also for numbers that no page of these bytes has. The table has room for as many values as its capacity says, and
+    // its pointer is not null, also where there is no room. A place is five words and lies as words must, as the test
+    // below holds; so no more is written than is the table's. It is lent alone, so nothing else sees it while it is
+    // written, and values need no drop, so those that were there may be written over.
+    let row = unsafe { shorgavel_row_in(db.as_ptr(), db.len(), *page, cell, table.as_mut_ptr(), words) };
+    debug_assert!(row.count <= row.columns && row.count <= table.capacity());
+    // SAFETY: it is proved that the count is the smaller of the row's columns and the table's places, or 0 on a refusal,
+    // and that all five words are written of so many places, from the first on. Whatever words are written, each such
+    // place is a value, since every pattern of bits is one in each of its fields, and what is between them may be
+    // anything.
+    unsafe { table.set_len(row.count) };
+    row
 }
 
 /// One column of a cell in the old reading.
@@ -275,9 +253,8 @@ mod tests {
         assert_eq!(size_of::<Opened>(), 40);
         assert_eq!(size_of::<Opening>(), 64);
         assert_eq!(size_of::<Along>(), 32);
-        assert_eq!(size_of::<Cell>(), 72);
+        assert_eq!(size_of::<Row>(), 80);
         assert_eq!(size_of::<Value>(), 40);
-        assert_eq!(size_of::<Filled>(), 40);
         assert_eq!(size_of::<Shown>(), 64);
     }
 
@@ -296,40 +273,72 @@ mod tests {
         assert_eq!(entries(&[], 1, 1, &mut []).refused.number, 1);
     }
 
-    /// Of a row of a 5 (type 1) and a 7 (type 2): as many values as a table has places, and nothing behind the last.
+    /// A page of 512 bytes and one row, number 3, of a 5 (type 1) and a 7 (type 2).
+    fn one_row() -> [u8; 512] {
+        let mut bytes = [0; 512];
+        bytes[..16].copy_from_slice(b"SQLite format 3\0");
+        bytes[16..24].copy_from_slice(&[2, 0, 1, 1, 0, 64, 32, 32]);
+        bytes[59] = 1;
+        bytes[100..110].copy_from_slice(&[13, 0, 0, 0, 1, 1, 248, 0, 1, 248]);
+        bytes[504..].copy_from_slice(&[6, 3, 3, 1, 2, 5, 0, 7]);
+        bytes
+    }
+
+    fn table_of(places: usize) -> Vec<Value> {
+        let mut table = Vec::with_capacity(places);
+        assert_eq!(table.capacity(), places);
+        let other = Value { kind: 9, width: 9, integer: 9, bits: 9, at: 9, len: 9 };
+        table.resize(places, other);
+        table
+    }
+
+    /// As many values as there are and as the table takes; every field of each is written.
     #[test]
     fn a_table_is_filled_as_far_as_it_goes() {
-        let row = [1, 2, 5, 0, 7];
-        let first = Along { at: 0, stop: 2, value: 2, end: 5 };
-        for fill in [old_values, file_values] {
-            assert_eq!(fill(&row, first, &mut []).count, 0);
-            let mut table = [Value { kind: 9, ..Value::default() }; 4];
-            let filled = fill(&row, first, &mut table[..1]);
-            assert_eq!((filled.count, table[0].integer, table[1].kind), (1, 5, 9));
-            assert_eq!((filled.along.at, filled.along.value), (1, 3));
-            let filled = fill(&row, filled.along, &mut table[1..]);
-            assert_eq!((filled.count, table[1].integer, table[2].kind), (1, 7, 9));
-            assert_eq!(fill(&row, filled.along, &mut table).count, 0);
+        let bytes = one_row();
+        for reading in [0, 1, 2] {
+            let page = open(&bytes, reading, u32::from(reading > 0)).opened;
+            for places in 0..4 {
+                let mut table = table_of(places);
+                let row = row_in(&bytes, &page, 0, &mut table);
+                assert_eq!((row.refused.number, row.number, row.columns), (0, 3, 2));
+                assert_eq!((row.count, table.len(), table.capacity()), (places.min(2), places.min(2), places));
+                for (value, shown) in table.iter().zip([5, 7]) {
+                    assert_eq!((value.kind, value.integer), (INTEGER, shown));
+                    assert_eq!((value.bits, value.at, value.len), (0, 0, 0));
+                }
+            }
         }
     }
 
-    /// No cursor and no page is asked to be one that a call answered.
+    /// Where a row is refused, the table has no value.
     #[test]
-    fn numbers_of_no_page_and_no_row_are_answered() {
-        let along = Along { at: usize::MAX, stop: usize::MAX, value: usize::MAX, end: usize::MAX };
-        let mut table = [Value::default(); 2];
-        assert_eq!(old_values(&[9], along, &mut table).count, 0);
-        assert_eq!(file_values(&[9], along, &mut table).count, 0);
-        let page = Opened {
-            reading: 1,
-            kind: 13,
-            end: u32::MAX,
-            at: usize::MAX,
-            size: usize::MAX,
-            from: usize::MAX,
-            cells: usize::MAX,
-        };
-        assert_ne!(cell_in(&[9], page, 0).refused.number, 0);
-        assert_ne!(guarded_cell_in(&[9], page, usize::MAX - 1).refused.number, 0);
+    fn a_refusal_leaves_no_values() {
+        let bytes = one_row();
+        let page = open(&bytes, 1, 1).opened;
+        let mut table = table_of(3);
+        assert_eq!(row_in(&bytes, &page, 1, &mut table).refused.number, 20);
+        assert_eq!((table.len(), table.capacity()), (0, 3));
+    }
+
+    /// No page is asked to be one that a call answered.
+    #[test]
+    fn numbers_of_no_page_are_answered() {
+        for reading in [0, 1, 2, 255] {
+            let page = Opened {
+                reading,
+                kind: 13,
+                end: u32::MAX,
+                at: usize::MAX,
+                size: usize::MAX,
+                from: usize::MAX,
+                cells: usize::MAX,
+            };
+            for cell in [0, usize::MAX - 1] {
+                let mut table = table_of(2);
+                assert_ne!(row_in(&[9], &page, cell, &mut table).refused.number, 0);
+                assert!(table.is_empty());
+            }
+        }
     }
 }

@@ -1,30 +1,25 @@
 use crate::bytes::Bytes;
 use crate::calls;
-use crate::{Page, Reading, Refusal, Value, Values, Width};
+use crate::table::Table;
+use crate::{Page, Refusal, Value, Values, Width};
 use std::iter::FusedIterator;
 use std::ops::Range;
 
 /// A cell of a page, checked by itself: its row number and the values of its record.
-#[derive(Clone, Copy, Debug)]
+///
+/// It has all of its values, in memory that the next cell is given once this one is dropped. A cell that is kept keeps it.
+#[derive(Clone, Debug)]
 pub struct Cell<'a> {
     bytes: Bytes<'a>,
-    old: bool,
     rowid: i64,
-    columns: usize,
-    along: calls::Along,
+    table: Table,
 }
 
 impl<'a> Cell<'a> {
     #[inline]
-    pub(crate) fn of(bytes: Bytes<'a>, reading: Reading, answer: &calls::Cell) -> Result<Cell<'a>, Refusal> {
-        Refusal::check(answer.refused)?;
-        Ok(Cell {
-            bytes,
-            old: reading == Reading::Old,
-            rowid: answer.row,
-            columns: answer.columns,
-            along: answer.along,
-        })
+    pub(crate) fn of(bytes: Bytes<'a>, page: &calls::Opened, cell: usize) -> Result<Cell<'a>, Refusal> {
+        let (rowid, table) = Table::fetch(bytes, page, cell)?;
+        Ok(Cell { bytes, rowid, table })
     }
 
     /// The row number of a table leaf's cell, the key of an interior table's.
@@ -38,25 +33,25 @@ impl<'a> Cell<'a> {
     /// How many columns the record has.
     #[inline]
     pub fn columns(&self) -> usize {
-        self.columns
+        self.table.values().len()
     }
 
-    /// The values, one after the other.
+    /// The values, one after the other. Texts and blobs in them are the caller's bytes, and outlive the cell.
     #[inline]
-    pub fn values(&self) -> Values<'a> {
-        Values::of(self.bytes, self.old, self.columns, self.along)
+    pub fn values(&self) -> Values<'_, 'a> {
+        Values::of(self.bytes, self.table.values())
     }
 
-    /// The value of one column, if there is such a column. The values before it are passed over.
+    /// The value of one column, if there is such a column.
+    #[inline]
     pub fn value(&self, column: usize) -> Option<Value<'a>> {
         self.values().nth(column)
     }
 
     /// What the original calls the integers' types, column by column: none where a value is not an integer, and none in
     /// the readings that have no widths, file and guarded.
-    pub fn widths(&self) -> impl Iterator<Item = Option<Width>> + 'a {
-        let mut values = self.values();
-        (0..self.columns).map(move |_| values.step().and_then(|value| Width::of(value.width)))
+    pub fn widths(&self) -> impl Iterator<Item = Option<Width>> + '_ {
+        self.table.values().iter().map(|value| Width::of(value.width))
     }
 }
 

@@ -32,7 +32,7 @@ impl<'a> Gauge<'a> {
     /// The header's fields, or the first check that fails. The guarded reading has the file reading's.
     pub fn header(&self, reading: Reading) -> Result<DbHeader, Refusal> {
         let answer = calls::header(self.bytes.0, reading.number());
-        Refusal::check(answer.refused)?;
+        Refusal::check(&answer.refused)?;
         Ok(DbHeader::of(&answer.fields))
     }
 
@@ -67,7 +67,7 @@ impl<'a> Gauge<'a> {
             Reading::File => calls::file_value(self.bytes.0, pageno, cell, column),
             Reading::Guarded => calls::guarded_value(self.bytes.0, pageno, cell, column),
         };
-        Refusal::check(shown.refused)?;
+        Refusal::check(&shown.refused)?;
         Ok(Value::of(self.bytes.0, &shown.value))
     }
 }

@@ -50,6 +50,7 @@ mod page;
 mod reading;
 mod refusal;
 mod rows;
+mod table;
 mod value;
 mod values;
 

@@ -13,11 +13,8 @@ pub struct Page<'a> {
 
 impl<'a> Page<'a> {
     pub(crate) fn open(bytes: Bytes<'a>, reading: Reading, number: u32) -> Result<Page<'a>, Refusal> {
-        let opening = match reading {
-            Reading::Guarded => calls::guarded_open(bytes.0, number),
-            Reading::Old | Reading::File => calls::open(bytes.0, reading.number(), number),
-        };
-        Refusal::check(opening.refused)?;
+        let opening = calls::open(bytes.0, reading.number(), number);
+        Refusal::check(&opening.refused)?;
         Ok(Page { bytes, reading, number, opened: opening.opened })
     }
 
@@ -49,11 +46,7 @@ impl<'a> Page<'a> {
     /// A cell, whatever the others are like. Cells count from 0.
     #[inline]
     pub fn cell(&self, cell: usize) -> Result<Cell<'a>, Refusal> {
-        let answer = match self.reading {
-            Reading::Guarded => calls::guarded_cell_in(self.bytes.0, self.opened, cell),
-            Reading::Old | Reading::File => calls::cell_in(self.bytes.0, self.opened, cell),
-        };
-        Cell::of(self.bytes, self.reading, &answer)
+        Cell::of(self.bytes, &self.opened, cell)
     }
 
     /// All cells, each shown or refused by itself.
@@ -66,7 +59,7 @@ impl<'a> Page<'a> {
     /// The guarded reading has no such call: of its pages the file reading's head is answered.
     pub fn head(&self) -> Result<Head, Refusal> {
         let answer = calls::page(self.bytes.0, self.reading.number(), self.number);
-        Refusal::check(answer.refused)?;
+        Refusal::check(&answer.refused)?;
         Ok(Head::of(&answer.head))
     }
 
@@ -74,7 +67,7 @@ impl<'a> Page<'a> {
     pub fn entries(&self) -> Result<Vec<Entry>, Refusal> {
         let mut table = vec![calls::CellEntry::default(); self.len()];
         let answer = calls::entries(self.bytes.0, self.reading.number(), self.number, &mut table);
-        Refusal::check(answer.refused)?;
+        Refusal::check(&answer.refused)?;
         Ok(table.iter().map(|entry| Entry::of(self.reading, entry)).collect())
     }
 }

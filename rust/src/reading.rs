@@ -32,11 +32,13 @@ impl Reading {
         }
     }
 
-    /// The number by which calls are told a reading; what guarded shows of headers and pages is the file reading's.
+    /// The number by which calls are told a reading. Of headers and whole pages guarded has nothing of its own: there its
+    /// number is taken for the file reading.
     pub(crate) fn number(self) -> u8 {
         match self {
             Reading::Old => 0,
-            Reading::File | Reading::Guarded => 1,
+            Reading::File => 1,
+            Reading::Guarded => 2,
         }
     }
 }

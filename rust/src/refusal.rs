@@ -44,12 +44,19 @@ const REASONS: [(&str, &str); 22] = [
 impl Refusal {
     /// What a call answers, where it refuses.
     #[inline]
-    pub(crate) fn check(refused: calls::Refused) -> Result<(), Refusal> {
+    pub(crate) fn check(refused: &calls::Refused) -> Result<(), Refusal> {
         if refused.number == 0 {
             return Ok(());
         }
+        Err(Refusal::of(refused))
+    }
+
+    /// Apart from the check, so that a row that is shown is not handled byte by byte for the sake of one that is not.
+    #[cold]
+    #[inline(never)]
+    fn of(refused: &calls::Refused) -> Refusal {
         let (number, mark) = (usize::from(refused.number), usize::from(refused.mark));
-        Err(Refusal { number, mark, cell: refused.cell, column: refused.column })
+        Refusal { number, mark, cell: refused.cell, column: refused.column }
     }
 
     /// The refusal of a database that is too long, 22.

@@ -1,4 +1,4 @@
-use crate::{Cell, Cells, Gauge, Kind, Page, Reading, Refusal};
+use crate::{Cell, Gauge, Kind, Page, Reading, Refusal};
 use std::iter::FusedIterator;
 use std::ops::Range;
 
@@ -49,7 +49,7 @@ impl<'a> Iterator for Leaves<'a> {
 impl FusedIterator for Leaves<'_> {}
 
 /// A cell of a table leaf, and where it stands.
-#[derive(Clone, Copy, Debug)]
+#[derive(Clone, Debug)]
 pub struct Row<'a> {
     /// The page's number, from 1 on in every reading.
     pub page: u32,
@@ -63,22 +63,22 @@ pub struct Row<'a> {
 #[derive(Clone, Debug)]
 pub struct Rows<'a> {
     leaves: Leaves<'a>,
-    page: u32,
-    cell: usize,
-    cells: Option<Cells<'a>>,
+    /// The leaf whose cells are shown; none before the first.
+    page: Option<Page<'a>>,
+    /// Its cells that are not shown yet.
+    cells: Range<usize>,
 }
 
 impl<'a> Rows<'a> {
     pub(crate) fn of(leaves: Leaves<'a>) -> Rows<'a> {
-        Rows { leaves, page: 0, cell: 0, cells: None }
+        Rows { leaves, page: None, cells: 0..0 }
     }
 
     /// The next leaf, if there is one.
     fn turn(&mut self) -> Option<()> {
         let page = self.leaves.next()?;
-        self.page = page.number() - page.reading().first_page() + 1;
-        self.cell = 0;
-        self.cells = Some(page.cells());
+        self.cells = 0..page.len();
+        self.page = Some(page);
         Some(())
     }
 }
@@ -89,10 +89,9 @@ impl<'a> Iterator for Rows<'a> {
     #[inline]
     fn next(&mut self) -> Option<Row<'a>> {
         loop {
-            if let Some(shown) = self.cells.as_mut().and_then(Cells::next) {
-                let cell = self.cell;
-                self.cell += 1;
-                return Some(Row { page: self.page, cell, shown });
+            if let (Some(page), Some(cell)) = (&self.page, self.cells.next()) {
+                let number = page.number() - page.reading().first_page() + 1;
+                return Some(Row { page: number, cell, shown: page.cell(cell) });
             }
             self.turn()?;
         }

@@ -76,10 +76,11 @@ impl<'a> Value<'a> {
     }
 }
 
-/// It is proved that the part lies in the bytes; safe code asks again, and has no bytes to show otherwise.
+/// It is proved that the part lies in the bytes. Safe code asks again, and shows as much of it as there is.
 #[inline]
 fn part(bytes: &[u8], at: usize, len: usize) -> &[u8] {
-    bytes.get(at..).and_then(|rest| rest.get(..len)).unwrap_or(&[])
+    let (_, rest) = bytes.split_at(at.min(bytes.len()));
+    &rest[..len.min(rest.len())]
 }
 
 impl PartialEq for Value<'_> {

@@ -4,7 +4,8 @@ mod common;
 
 use common::{every_kind, put, two_rows};
 use shorgavel::Reading::{File, Guarded, Old};
-use shorgavel::{Cell, Entry, Gauge, Head, Kind, Mark, Reading, Refusal, TextEncoding, Value, Width};
+use shorgavel::{Cell, Entry, Gauge, Head, Kind, Mark, Reading, Refusal, Row, TextEncoding, Value, Width};
+use std::cell::RefCell;
 
 fn cell(bytes: &[u8], reading: Reading, number: usize) -> Result<Cell<'_>, Refusal> {
     Gauge::new(bytes).get_page(reading, reading.first_page()).unwrap().cell(number)
@@ -175,27 +176,84 @@ fn every_kind_of_value_is_shown() {
     }
 }
 
-/// Values are fetched some at a time: a row of 20 integers takes several turns, and is one row all the same.
+/// The two rows with a cell 1 of so many integers of one byte: 2, 3 and so on. It ends where its cell ended before.
+fn long_row(columns: u8) -> Vec<u8> {
+    let mut bytes = two_rows();
+    let payload = 1 + 2 * usize::from(columns);
+    let mut row = vec![0x80 | (payload >> 7) as u8, (payload & 0x7f) as u8, 2, columns + 1];
+    row.extend([1].repeat(columns.into()));
+    row.extend(2..columns + 2);
+    let at = 494 - row.len();
+    put(&mut bytes, at, &row);
+    put(&mut bytes, 110, &(at as u16).to_be_bytes());
+    put(&mut bytes, 105, &(at as u16).to_be_bytes());
+    bytes
+}
+
+fn integers(columns: u8) -> Vec<Value<'static>> {
+    (2..columns + 2).map(|z| Value::Integer(z.into())).collect()
+}
+
+/// A row's table has eight places at first: one that is wider is one row all the same, to its end.
 #[test]
 fn long_rows_are_shown_to_their_end() {
-    let mut bytes = two_rows();
-    put(&mut bytes, 110, b"\x01\x90");
-    put(&mut bytes, 400, b"\x29\x02\x15");
-    put(&mut bytes, 403, &[1; 20]);
-    put(&mut bytes, 423, &std::array::from_fn::<u8, 20, _>(|column| column as u8 + 2));
-    let expected: Vec<_> = (2..22).map(Value::Integer).collect();
+    for columns in [1, 7, 8, 9, 16, 20, 100] {
+        let (bytes, expected) = (long_row(columns), integers(columns));
+        let count = usize::from(columns);
+        for reading in Reading::ALL {
+            let row = cell(&bytes, reading, 1).unwrap();
+            assert_eq!((row.columns(), values(&row)), (count, expected.clone()));
+            assert_eq!((row.value(count - 1), row.value(count)), (Some(expected[count - 1]), None));
+            assert_eq!(row.widths().count(), count);
+            assert_eq!(row.widths().all(|width| width == Some(Width::I8)), reading == Old);
+        }
+    }
+}
+
+#[test]
+fn values_are_passed_over_and_gone_on_with() {
+    let (bytes, expected) = (long_row(20), integers(20));
     for reading in Reading::ALL {
         let row = cell(&bytes, reading, 1).unwrap();
-        assert_eq!(values(&row), expected);
-        assert_eq!((row.value(19), row.value(20)), (Some(Value::Integer(21)), None));
-        assert_eq!(row.widths().count(), 20);
         let mut some = row.values();
         some.nth(10);
         let mut others = some.clone();
         assert_eq!((some.len(), some.next(), some.last()), (9, Some(expected[11]), Some(expected[19])));
         assert_eq!((others.nth(8), others.len(), others.next()), (Some(expected[19]), 0, None));
+        assert_eq!((others.nth(3), others.next()), (None, None));
     }
-    assert!(cell(&bytes, Old, 1).unwrap().widths().all(|width| width == Some(Width::I8)));
+}
+
+/// The table of a row that is dropped serves the next one; a row that is kept has its own.
+#[test]
+fn rows_that_are_kept_keep_their_values() {
+    let databases = [long_row(100), two_rows(), every_kind(), long_row(3), long_row(20)];
+    let rows = |bytes| Gauge::new(bytes).rows(File).unwrap();
+    let alone = |row: Row<'_>| format!("{:?}", values(&row.shown.unwrap()));
+    let kept: Vec<_> = databases.iter().flat_map(|bytes| rows(bytes)).collect();
+    let copies: Vec<_> = kept.iter().step_by(2).cloned().collect();
+    let one_by_one: Vec<_> = databases.iter().flat_map(|bytes| rows(bytes)).map(alone).collect();
+    assert_eq!(kept.into_iter().map(alone).collect::<Vec<_>>(), one_by_one);
+    let every_other: Vec<_> = one_by_one.into_iter().step_by(2).collect();
+    assert_eq!(copies.into_iter().map(alone).collect::<Vec<_>>(), every_other);
+}
+
+/// Rows go from thread to thread, and may outlive all else of one that ends.
+#[test]
+fn rows_are_not_bound_to_a_thread() {
+    thread_local! {
+        static LAST: RefCell<Option<Cell<'static>>> = const { RefCell::new(None) };
+    }
+    let bytes: &'static [u8] = Vec::leak(long_row(20));
+    let row = cell(bytes, File, 1).unwrap();
+    let shown = std::thread::spawn(move || {
+        LAST.with(|last| last.replace(Some(row.clone())));
+        assert_eq!(values(&cell(bytes, Old, 1).unwrap()), integers(20));
+        LAST.with(|last| last.replace(Some(row.clone())));
+        (values(&row), row)
+    });
+    let (shown, row) = shown.join().unwrap();
+    assert_eq!((shown, values(&row)), (integers(20), integers(20)));
 }
 
 #[test]
@@ -234,7 +292,8 @@ fn iterators_know_their_length() {
     assert_eq!(cells.len(), 2);
     cells.next();
     assert_eq!(cells.len(), 1);
-    let mut values = cells.next().unwrap().unwrap().values();
+    let row = cells.next().unwrap().unwrap();
+    let mut values = row.values();
     assert_eq!((values.len(), cells.len()), (7, 0));
     values.nth(4);
     assert_eq!(values.len(), 2);
@@ -271,7 +330,7 @@ fn rows_go_through_the_table_leaves() {
         let rows: Vec<_> = Gauge::new(&bytes).rows(reading).unwrap().collect();
         let places: Vec<_> = rows.iter().map(|row| (row.page, row.cell)).collect();
         assert_eq!(places, [(1, 0), (1, 1), (3, 0)]);
-        assert_eq!(rows[2].shown.unwrap().rowid(), 2);
+        assert_eq!(rows[2].shown.as_ref().unwrap().rowid(), 2);
         assert_eq!(rows[0].shown.is_err(), reading == Guarded);
         let leaves = Gauge::new(&bytes).leaves(reading).unwrap();
         assert_eq!(leaves.map(|page| page.len()).collect::<Vec<_>>(), [2, 1]);

@@ -171,40 +171,176 @@ static void cells(void) {
     CHECK(refused(shorgavel_file_cell(db, sizeof db, 1, 2).refused, 20, 0, 0, 0));
 }
 
-/* Cells of an opened page are those that the calls on one cell answer. */
-static int same(shorgavel_cell a, shorgavel_cell b) {
-    return refused(a.refused, b.refused.number, b.refused.mark, b.refused.cell, b.refused.column) && a.row == b.row &&
-           a.columns == b.columns && along(a.along, b.along.at, b.along.stop, b.along.value, b.along.end);
-}
-
 static int opened(shorgavel_opened o, int reading) {
     return o.reading == reading && o.kind == 13 && o.end == 512 && o.at == 0 && o.size == 512 && o.from == 100 &&
            o.cells == 2;
 }
 
-static void opened_pages(void) {
-    shorgavel_opening old = shorgavel_open(db, sizeof db, SHORGAVEL_OLD, 0);
-    shorgavel_opening file = shorgavel_open(db, sizeof db, SHORGAVEL_FILE, 1);
-    shorgavel_opening guarded = shorgavel_guarded_open(db, sizeof db, 1);
-    CHECK(accepted(old.refused) && opened(old.opened, SHORGAVEL_OLD));
-    CHECK(accepted(file.refused) && opened(file.opened, SHORGAVEL_FILE));
-    CHECK(accepted(guarded.refused) && opened(guarded.opened, SHORGAVEL_FILE));
-    for (size_t i = 0; i < 3; i++) {
-        CHECK(same(shorgavel_cell_in(db, sizeof db, old.opened, i), shorgavel_old_cell(db, sizeof db, 0, i)));
-        CHECK(same(shorgavel_cell_in(db, sizeof db, file.opened, i), shorgavel_file_cell(db, sizeof db, 1, i)));
-        CHECK(same(shorgavel_guarded_cell_in(db, sizeof db, guarded.opened, i), shorgavel_guarded_cell(db, sizeof db, 1, i)));
-    }
+static shorgavel_opening open_page(uint8_t reading) {
+    return shorgavel_open(db, sizeof db, reading, reading == SHORGAVEL_OLD ? 0 : 1);
+}
 
+/* The kinds of pages that are no table leaf. */
+static const uint8_t others[] = {2, 5, 10};
+
+/* The answer tells the reading; guarded opens table leaves alone, and other numbers are the file reading. */
+static void opened_pages(void) {
+    for (uint8_t r = SHORGAVEL_OLD; r <= SHORGAVEL_GUARDED; r++) {
+        shorgavel_opening o = open_page(r);
+        CHECK(accepted(o.refused) && opened(o.opened, r));
+    }
+    CHECK(opened(open_page(3).opened, SHORGAVEL_FILE) && opened(open_page(255).opened, SHORGAVEL_FILE));
     CHECK(refused(shorgavel_open(db, sizeof db, SHORGAVEL_FILE, 2).refused, 8, 0, 0, 0));
-    db[100] = 10;
-    guarded = shorgavel_guarded_open(db, sizeof db, 1);
-    CHECK(refused(guarded.refused, 10, 0, 0, 0) && guarded.opened.cells == 0 && guarded.opened.kind == 0);
-    CHECK(shorgavel_open(db, sizeof db, SHORGAVEL_FILE, 1).opened.kind == 10);
+    CHECK(refused(shorgavel_open(db, sizeof db, SHORGAVEL_GUARDED, 0).refused, 8, 0, 0, 0));
+    CHECK(refused(shorgavel_open(db, sizeof db, SHORGAVEL_GUARDED, 2).refused, 8, 0, 0, 0));
+
+    for (size_t i = 0; i < sizeof others; i++) {
+        db[100] = others[i];
+        shorgavel_opening guarded = open_page(SHORGAVEL_GUARDED);
+        CHECK(refused(guarded.refused, 10, 0, 0, 0) && guarded.opened.cells == 0 && guarded.opened.kind == 0);
+        CHECK(open_page(SHORGAVEL_OLD).opened.kind == others[i] && open_page(SHORGAVEL_FILE).opened.kind == others[i]);
+    }
     db[100] = 13;
 
-    /* Numbers that no page has are answered too. */
-    file.opened.cells = SIZE_MAX;
-    CHECK(refused(shorgavel_cell_in(db, sizeof db, file.opened, 0).refused, 8, 0, 0, 0));
+    /* Elsewhere guarded's number is one of the others. */
+    CHECK(shorgavel_header(db, sizeof db, SHORGAVEL_GUARDED).fields.page_size == 512);
+    CHECK(shorgavel_page(db, sizeof db, SHORGAVEL_GUARDED, 1).head.cells == 2);
+    CHECK(shorgavel_entry(db, sizeof db, SHORGAVEL_GUARDED, 1, 1).pointer == 494);
+}
+
+/* ROWS OF AN OPENED PAGE: what the calls on one cell and the values calls answer */
+
+typedef shorgavel_cell cell_call(const uint8_t *, size_t, uint32_t, size_t);
+
+typedef struct {
+    uint8_t number;
+    uint32_t page;
+    cell_call *cell;
+    values_call *fill;
+} reading;
+
+static const reading readings[] = {
+    {SHORGAVEL_OLD, 0, shorgavel_old_cell, shorgavel_old_values},
+    {SHORGAVEL_FILE, 1, shorgavel_file_cell, shorgavel_file_values},
+    {SHORGAVEL_GUARDED, 1, shorgavel_guarded_cell, shorgavel_file_values},
+};
+
+/* More places than any row here has columns. */
+enum { PLACES = 9 };
+
+static void make_blank(shorgavel_value *table) {
+    for (size_t i = 0; i < PLACES; i++) table[i] = blank;
+}
+
+static int all_blank(const shorgavel_value *table) {
+    for (size_t i = 0; i < PLACES; i++) {
+        if (!is_blank(table[i])) return 0;
+    }
+    return 1;
+}
+
+static int same_values(const shorgavel_value *a, const shorgavel_value *b, size_t count) {
+    for (size_t i = 0; i < count; i++) {
+        if (!value(a[i], b[i].kind, b[i].width, b[i].integer, b[i].bits, b[i].at, b[i].len)) return 0;
+    }
+    return 1;
+}
+
+static int same_head(const shorgavel_row *row, const shorgavel_cell *c) {
+    return refused(row->refused, c->refused.number, c->refused.mark, c->refused.cell, c->refused.column) &&
+           row->number == c->row && row->columns == c->columns;
+}
+
+static int same_along(shorgavel_along a, shorgavel_along b) { return along(a, b.at, b.stop, b.value, b.end); }
+
+/* With a table of so many words: the values that fit, nothing behind them, and the others from the cursor on. */
+static void row_is_cell(const reading *r, shorgavel_opened page, size_t cell, size_t words) {
+    shorgavel_value table[PLACES], expected[PLACES], rest[PLACES];
+    make_blank(table);
+    make_blank(expected);
+    shorgavel_row row = shorgavel_row_in(db, sizeof db, page, cell, table, words);
+    shorgavel_cell c = r->cell(db, sizeof db, r->page, cell);
+    CHECK(same_head(&row, &c));
+    if (c.refused.number != 0) {
+        CHECK(row.count == 0 && along(row.along, 0, 0, 0, 0) && all_blank(table));
+        return;
+    }
+    size_t places = words / SHORGAVEL_WORDS(1);
+    CHECK(row.count == (c.columns < places ? c.columns : places));
+    shorgavel_filled f = r->fill(db, sizeof db, c.along, expected, words);
+    CHECK(row.count == f.count && same_along(row.along, f.along) && same_values(table, expected, PLACES));
+    CHECK(places > 0 || same_along(row.along, c.along));
+
+    shorgavel_filled all = r->fill(db, sizeof db, c.along, expected, SHORGAVEL_WORDS(PLACES));
+    f = r->fill(db, sizeof db, row.along, rest, SHORGAVEL_WORDS(PLACES));
+    CHECK(row.count + f.count == c.columns && same_along(f.along, all.along));
+    CHECK(same_values(rest, expected + row.count, f.count));
+}
+
+/* Every cell and one that is not there, in the readings that open the page, with tables of every size. */
+static void rows_are_cells(void) {
+    for (size_t i = 0; i < 3; i++) {
+        shorgavel_opening o = open_page(readings[i].number);
+        if (o.refused.number != 0) continue;
+        for (size_t cell = 0; cell < 3; cell++) {
+            for (size_t words = 0; words <= SHORGAVEL_WORDS(PLACES); words++) {
+                row_is_cell(&readings[i], o.opened, cell, words);
+            }
+        }
+    }
+}
+
+static void rows(void) {
+    CHECK(sizeof(shorgavel_row) == 80);
+    rows_are_cells();
+    shorgavel_value table[PLACES];
+    make_blank(table);
+    shorgavel_row row = shorgavel_row_in(db, sizeof db, open_page(SHORGAVEL_OLD).opened, 0, table, SHORGAVEL_WORDS(2));
+    CHECK(accepted(row.refused) && row.number == 1 && row.columns == 2 && row.count == 2);
+    CHECK(along(row.along, 508, 508, 512, 512) && integer(table[0], 8, 0) && integer(table[1], 32, 16777216));
+    row = shorgavel_row_in(db, sizeof db, open_page(SHORGAVEL_FILE).opened, 0, table, SHORGAVEL_WORDS(1));
+    CHECK(accepted(row.refused) && row.number == 1 && row.columns == 2 && row.count == 1);
+    CHECK(along(row.along, 507, 508, 508, 512) && integer(table[0], 0, 1) && integer(table[1], 32, 16777216));
+    row = shorgavel_row_in(db, sizeof db, open_page(SHORGAVEL_GUARDED).opened, 1, table, SHORGAVEL_WORDS(PLACES));
+    CHECK(accepted(row.refused) && row.number == 2 && row.columns == 2 && row.count == 2);
+    CHECK(integer(table[0], 0, 0) && integer(table[1], 0, 16777216) && is_blank(table[2]));
+
+    for (size_t i = 0; i < sizeof others; i++) {
+        db[100] = others[i];
+        rows_are_cells();
+    }
+    db[100] = 13;
+}
+
+/* On a refusal all else is 0, and the table is left as it was. */
+static int row_refused(const uint8_t *bytes, size_t length, shorgavel_opened page, size_t cell, int number, int mark) {
+    shorgavel_value table[PLACES];
+    make_blank(table);
+    shorgavel_row row = shorgavel_row_in(bytes, length, page, cell, table, SHORGAVEL_WORDS(PLACES));
+    return row.refused.number == number && row.refused.mark == mark && row.number == 0 && row.columns == 0 &&
+           row.count == 0 && along(row.along, 0, 0, 0, 0) && all_blank(table);
+}
+
+static void refused_rows(void) {
+    static const uint8_t other[sizeof db];
+    CHECK(row_refused(db, sizeof db, open_page(SHORGAVEL_GUARDED).opened, 0, 21, 3));
+    for (uint8_t r = SHORGAVEL_OLD; r <= SHORGAVEL_GUARDED; r++) {
+        shorgavel_opened page = open_page(r).opened;
+        CHECK(row_refused(db, sizeof db, page, 2, 20, 0));
+        CHECK(row_refused(db, sizeof db, page, SIZE_MAX, 20, 0));
+
+        /* A page of other bytes: fewer, none, and such as have no cell where the pointer leads. */
+        CHECK(row_refused(db, sizeof db - 1, page, 1, 8, 0));
+        CHECK(row_refused(db, 0, page, 0, 8, 0));
+        CHECK(row_refused(other, sizeof other, page, 0, 12, 0));
+
+        /* Numbers that no page has. */
+        shorgavel_opened none = page;
+        none.cells = SIZE_MAX;
+        CHECK(row_refused(db, sizeof db, none, 0, 8, 0));
+        none = (shorgavel_opened){r, 255, UINT32_MAX, SIZE_MAX, SIZE_MAX, SIZE_MAX, SIZE_MAX};
+        CHECK(row_refused(db, sizeof db, none, 0, 8, 0));
+    }
 }
 
 static void values(void) {
@@ -252,6 +388,7 @@ static void kinds(void) {
         CHECK(of_kind(shorgavel_file_value(db, sizeof db, 1, 1, k).value, k, 0));
         CHECK(of_kind(shorgavel_guarded_value(db, sizeof db, 1, 1, k).value, k, 0));
     }
+    rows_are_cells();
 }
 
 /* A refusal with a cell and a column: the first type of cell 1 is reserved. */
@@ -261,6 +398,8 @@ static void reserved(void) {
     db[403] = 1;
     db[404] = 10;
     CHECK(refused(shorgavel_file_cell(db, sizeof db, 1, 1).refused, 15, 0, 1, 1));
+    CHECK(row_refused(db, sizeof db, open_page(SHORGAVEL_FILE).opened, 1, 15, 0));
+    rows_are_cells();
 }
 
 int main(void) {
@@ -270,6 +409,8 @@ int main(void) {
     entries();
     cells();
     opened_pages();
+    rows();
+    refused_rows();
     values();
     write_kinds();
     kinds();

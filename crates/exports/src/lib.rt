@@ -1,10 +1,10 @@
 // Every public call for C and Rust: a turn of types and nothing more.
 //
 // Each function calls one of a reader and hands its answer on as a struct of numbers (`types`, `turns`): C has no enums
-// that hold something, and an exported function answers no reference. Nothing is decided here; the values of a row are
-// fetched by the readers' own steps, one after the other, into a table (`batch`, `whole`). include/shorgavel.h declares
-// the calls. A slice is a pointer that is not null and a length, also where it is empty. Pages count from 0 in
-// the old reading and from 1 in the other two.
+// that hold something, and an exported function answers no reference. Nothing is decided here. The values of a row are
+// stored in a table, from any cursor by the readers' own steps (`batch`), and of a row that is found in the same call with
+// nothing looked for twice (`whole`). include/shorgavel.h declares the calls. A slice is a pointer that is not null and a
+// length, also where it is empty. Pages count from 0 in the old reading and from 1 in the other two.
 mod batch;
 mod turns;
 pub mod types;

@@ -3,7 +3,7 @@
 // A row is usual if it is a cell of a table leaf whose numbers take at most five bytes each and whose header size takes one,
 // as those of a gauge do. One pass looks at each of its types once, and only for whether all is well. Where it is not, or
 // the row is not usual, the plain form answers: every answer and every refusal is the plain form's, which is the definition
-// here.
+// here. From the file format, 1.6 "B-tree Pages" and 2.1 "Record Format", as `page`, `cell` and `record` have them.
 ghost use mathlib.Core.Path.{_≡_};
 ghost use mathlib.Core.Bool.{true};
 ghost use Prim.Native.Nat.{_≤_, _<_};

@@ -18,17 +18,17 @@ pub struct Trio<'a> {
 }
 
 /// How the readings stand to each other on a cell.
-pub enum Standing<'a> {
+pub enum Standing<'t, 'a> {
     /// Old and file show the same. It is a theorem that they do wherever guarded shows something.
     Agree,
     /// Old and file refuse the cell.
     Refused,
     /// Old and file show the cell, and guarded refuses it for a mark.
-    Differ(Cell<'a>, Cell<'a>, Refusal),
+    Differ(&'t Cell<'a>, &'t Cell<'a>, Refusal),
     /// Old refuses what file shows, and guarded refuses it for a mark.
-    OldRefuses(Refusal, Cell<'a>, Refusal),
+    OldRefuses(Refusal, &'t Cell<'a>, Refusal),
     /// File refuses what old shows.
-    FileRefuses(Cell<'a>, Refusal),
+    FileRefuses(&'t Cell<'a>, Refusal),
 }
 
 /// All table leaves: each reading goes through the same pages.
@@ -70,13 +70,13 @@ impl<'a> Leaf<'a> {
 }
 
 impl<'a> Trio<'a> {
-    pub fn standing(&self) -> Standing<'a> {
-        match (self.old, self.file, self.guarded) {
+    pub fn standing(&self) -> Standing<'_, 'a> {
+        match (&self.old, &self.file, &self.guarded) {
             (_, _, Ok(_)) => Standing::Agree,
             (Err(_), Err(_), _) => Standing::Refused,
-            (Ok(old), Ok(file), Err(guarded)) => Standing::Differ(old, file, guarded),
-            (Err(old), Ok(file), Err(guarded)) => Standing::OldRefuses(old, file, guarded),
-            (Ok(old), Err(file), _) => Standing::FileRefuses(old, file),
+            (Ok(old), Ok(file), Err(guarded)) => Standing::Differ(old, file, *guarded),
+            (Err(old), Ok(file), Err(guarded)) => Standing::OldRefuses(*old, file, *guarded),
+            (Ok(old), Err(file), _) => Standing::FileRefuses(old, *file),
         }
     }
 

@@ -47,13 +47,13 @@ fn line(out: &mut Out, reading: Reading, row: &Row<'_>) {
     out.decimal(row.cell as u64);
     out.text(b" ");
     out.text(reading.name().as_bytes());
-    match row.shown {
+    match &row.shown {
         Ok(cell) => {
             out.text(b" ");
             out.signed(cell.rowid());
             cell.values().for_each(|shown| value(out, shown));
         }
-        Err(refusal) => refused(out, refusal),
+        Err(refusal) => refused(out, *refusal),
     }
     out.text(b"\n");
 }

@@ -9,19 +9,19 @@ pub fn lines(trio: &Trio<'_>, encoding: TextEncoding) -> Vec<String> {
     let place = format!("page {} cell {}", trio.page, trio.cell);
     match trio.standing() {
         Standing::Agree | Standing::Refused => Vec::new(),
-        Standing::Differ(old, file, guarded) => differ(&place, &old, &file, guarded, encoding),
+        Standing::Differ(old, file, guarded) => differ(&place, old, file, guarded, encoding),
         Standing::OldRefuses(old, file, guarded) => {
             let mut line = format!("{place}: {}: old refuses it (", meaning(guarded));
             words::refusal(&mut line, old);
             line.push_str("), the gauge wrote ");
-            words::row(&mut line, &file, encoding);
+            words::row(&mut line, file, encoding);
             vec![line]
         }
         Standing::FileRefuses(old, file) => {
             let mut line = format!("{place}: file refuses it (");
             words::refusal(&mut line, file);
             line.push_str("), old shows ");
-            words::row(&mut line, &old, encoding);
+            words::row(&mut line, old, encoding);
             vec![line]
         }
     }

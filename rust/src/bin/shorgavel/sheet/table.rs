@@ -67,22 +67,23 @@ impl Table<'_> {
             self.out.decimal(place);
         }
         self.out.text(b"<th>");
-        if let Ok(cell) = trio.file.or(trio.old) {
+        if let Ok(cell) = trio.file.as_ref().or(trio.old.as_ref()) {
             self.out.signed(cell.rowid());
         }
-        let both = if parts { trio.old.ok().zip(trio.file.ok()) } else { None };
-        self.reading(trio.old, both.map(|(_, file)| file));
-        self.reading(trio.file, both.map(|(old, _)| old));
-        self.reading(trio.guarded, None);
+        let (old, file) = (trio.old.as_ref(), trio.file.as_ref());
+        let both = if parts { old.ok().zip(file.ok()) } else { None };
+        self.reading(old, both.map(|(_, file)| file));
+        self.reading(file, both.map(|(old, _)| old));
+        self.reading(trio.guarded.as_ref(), None);
         self.out.text(b"\n");
     }
 
     /// What one reading shows. Values that the other one has not are marked.
-    fn reading(&mut self, shown: Result<Cell<'_>, Refusal>, other: Option<Cell<'_>>) {
+    fn reading(&mut self, shown: Result<&Cell<'_>, &Refusal>, other: Option<&Cell<'_>>) {
         match (shown, &self.form) {
-            (Err(refusal), _) => self.refused(refusal),
-            (Ok(cell), Form::Grid(_)) => self.grid(&cell, other),
-            (Ok(cell), Form::Flow) => self.flow(&cell, other),
+            (Err(refusal), _) => self.refused(*refusal),
+            (Ok(cell), Form::Grid(_)) => self.grid(cell, other),
+            (Ok(cell), Form::Flow) => self.flow(cell, other),
         }
     }
 
@@ -95,7 +96,7 @@ impl Table<'_> {
         html::text(self.out, &self.words);
     }
 
-    fn grid(&mut self, cell: &Cell<'_>, other: Option<Cell<'_>>) {
+    fn grid(&mut self, cell: &Cell<'_>, other: Option<&Cell<'_>>) {
         for_each(cell, other, |column, value, differs| {
             let text = matches!(value, Value::Text(_) | Value::Blob(_));
             self.word(value);
@@ -108,7 +109,7 @@ impl Table<'_> {
         }
     }
 
-    fn flow(&mut self, cell: &Cell<'_>, other: Option<Cell<'_>>) {
+    fn flow(&mut self, cell: &Cell<'_>, other: Option<&Cell<'_>>) {
         self.out.text(b"<td class=s><div>");
         for_each(cell, other, |_, value, differs| {
             self.word(value);
@@ -142,7 +143,7 @@ impl Table<'_> {
 }
 
 /// Each value with its column, and whether the other reading has another there, or none.
-fn for_each<'a>(cell: &Cell<'a>, other: Option<Cell<'_>>, mut each: impl FnMut(usize, Value<'a>, bool)) {
+fn for_each<'a>(cell: &Cell<'a>, other: Option<&Cell<'_>>, mut each: impl FnMut(usize, Value<'a>, bool)) {
     let mut others = other.map(|cell| cell.values());
     for (column, value) in cell.values().enumerate() {
         let differs = others.as_mut().is_some_and(|values| values.next() != Some(value));
