@@ -343,6 +343,30 @@ static void refused_rows(void) {
     }
 }
 
+/* A byte that looks drawn by lot, one time in three one that says something as a type, a length or an end. */
+static uint8_t lot(void) {
+    static const uint8_t telling[] = {0, 1, 7, 8, 9, 10, 11, 12, 13, 14, 15, 127, 128, 129, 255};
+    static uint32_t state = 1;
+    state = state * 1664525 + 1013904223;
+    uint8_t byte = (uint8_t)(state >> 24);
+    return (state >> 16) % 3 == 0 ? telling[byte % sizeof telling] : byte;
+}
+
+/* Damaged copies of the page, in its header and pointers, its cells and the record with every kind of value. */
+static void damaged_rows(void) {
+    static const size_t parts[][2] = {{100, 12}, {400, 33}, {494, 18}};
+    uint8_t sound[sizeof db];
+    memcpy(sound, db, sizeof db);
+    for (int copy = 0; copy < 4000; copy++) {
+        for (int damage = copy % 5; damage >= 0; damage--) {
+            const size_t *part = parts[(copy + damage) % 3];
+            db[part[0] + lot() % part[1]] = lot();
+        }
+        rows_are_cells();
+        memcpy(db, sound, sizeof db);
+    }
+}
+
 static void values(void) {
     shorgavel_shown s = shorgavel_old_value(db, sizeof db, 0, 0, 0);
     CHECK(accepted(s.refused) && integer(s.value, 8, 0));
@@ -414,6 +438,7 @@ int main(void) {
     values();
     write_kinds();
     kinds();
+    damaged_rows();
     reserved();
     puts(failed ? "failed" : "every call answers as expected");
     return failed;
