@@ -1,12 +1,13 @@
 -- How a cursor goes along the types: what one step comes to, and that column k is found by k steps.
-use Prim.Native.Nat.{ℕ, zero, suc, _+_, _-_}
+use Prim.Native.Nat.{ℕ, zero, suc, _+_, _-_, _<_}
 use mathlib.Core.Path.{_≡_, refl, sym, ap, _∙_}
 use mathlib.Core.List.{List, [], _∷_}
 use mathlib.Core.Bool.{Bool, true, false}
+use native.Mathlib.Nat.{add-zero}
 use native.Mathlib.Omega.{arith}
 use lib.Dec.{ltb, eqb}
-use lib.ListN.{take, drop}
-use lib.Seq.{drop-drop}
+use lib.ListN.{length, take, drop, getD, length-take, length-drop}
+use lib.Seq.{drop-drop, getD-take, getD-drop}
 use borrow.Author.Tests.{ne-eqb}
 use Rattle.laws.specs.Pick.{pick}
 use Rattle.laws.proofs.Never.{never}
@@ -15,11 +16,13 @@ use Rattle.varint.specs.declared.Cause.{Cause}
 use Rattle.varint.specs.declared.Varint.{Varint}
 use Rattle.varint.specs.declared.Varint.the-variants as vi
 use Rattle.varint.specs.Varint.{varintOf}
+use Rattle.varint.proofs.Laws.{one-byte, length-bounds}
 use Rattle.reading.specs.Reading.{limit}
+use Rattle.reading.proofs.Laws.{takes-five}
 use Rattle.serial.specs.declared.Width.{Width}
 use Rattle.serial.specs.declared.Width.the-variants as wi
 use Rattle.serial.specs.Serial.{widthOf}
-use Rattle.record.specs.Types.{num, Types, done, broken, column, typesOf}
+use Rattle.record.specs.Types.{num, Types, done, broken, column, typesOf, count}
 use Rattle.record.proofs.Laws.{types-nil, types-next, types-broken}
 use Rattle.columns.specs.declared.Cursor.{Cursor}
 use Rattle.columns.specs.declared.Stepped.the-variants.{Column, Done}
@@ -48,6 +51,24 @@ module _ (c : Cursor) (db : List ℕ) where
         let d : c .stop - c .at - n ≡ c .stop - (c .at + n) = omega arith in
         rw (drop-take, d, drop-drop) at (types-next (limit (c .reading)) ahead e)
 
+    -- there is a byte of it
+    pub type-within : (c .at < c .stop) × (c .at < length db)
+    type-within = let b = simp (length-take, length-drop) at (length-bounds ahead (limit (c .reading)) e) in omega arith
+
+    first-byte : getD ahead 0 0 ≡ getD db (c .at) 0
+    first-byte =
+        let w = type-within in
+        let l : 0 < c .stop - c .at = omega arith in
+        rw (getD-take, getD-drop, add-zero)
+
+    -- a byte below 128 is the type
+    pub type-byte : getD db (c .at) 0 < 128 → (t ≡ getD db (c .at) 0) × (n ≡ 1)
+    type-byte h =
+        let b = length-bounds ahead (limit (c .reading)) e in
+        let l = one-byte ahead (limit (c .reading)) (omega (arith, takes-five (c .reading))) (omega arith) (rw first-byte h) in
+        let v = sym (rw first-byte at l) ∙ e in
+        (cc, cc)
+
     pub step-reserved : widthOf t ≡ wi.Reserved → stepOf c db ≡ Done
     unfolding stepOf stepIn
     step-reserved f = ap (stepIn c) (types-behind 0) ∙ simp (stepIn, f)
@@ -55,6 +76,16 @@ module _ (c : Cursor) (db : List ℕ) where
     pub step-passes : {w : ℕ} → widthOf t ≡ wi.Bytes w → stepOf c db ≡ passed c t n w
     unfolding stepOf stepIn
     step-passes f = ap (stepIn c) (types-behind 0) ∙ simp (stepIn, f)
+
+  -- no column where none is counted
+  pub step-none : count (typesAt c db) ≡ 0 → stepOf c db ≡ Done
+  unfolding stepOf stepIn
+  step-none e = go (typesAt c db) e
+    where
+      go : (ts : Types) → count ts ≡ 0 → stepIn c ts ≡ Done
+      go done d = refl
+      go broken d = refl
+      go (column (num t m) rest) d = absurd (omega arith)
 
   -- COLUMN k, by its steps
 

@@ -28,6 +28,7 @@ use Rattle.page.specs.Place.{oldKey, fileKey, readingIn}
 use Rattle.page.specs.Open as page
 use Rattle.page.specs.Located.{locatedOf}
 use Rattle.page.proofs.Laws.{old-reading, file-reading}
+use Rattle.page.proofs.Named.{open-reading}
 use Rattle.page.proofs.Found.{found}
 use Rattle.page.proofs.Again.{cells-again}
 use Rattle.row.specs.declared.FoundAnswer.{FoundAnswer}
@@ -56,7 +57,7 @@ use Rattle.exports.specs.Agreement.{cellOf, shownOf, cellFrom, CellsAgre
 use Rattle.exports.proofs.Filling.{run-done, run-full, run-more}
 use Rattle.exports.proofs.Checked.{Left, at-first, Next, next, none-left}
 use Rattle.exports.proofs.Rows.{found-whole}
-use Rattle.exports.proofs.Pages.{open-reading, open-back, page-behind}
+use Rattle.exports.proofs.Pages.{open-back, page-behind}
 
 -- PLACES
 

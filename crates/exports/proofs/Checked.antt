@@ -2,33 +2,29 @@
 use Prim.Native.Nat.{ℕ, _+_, _-_, _*_, _≤_, _<_}
 use mathlib.Core.Path.{_≡_, refl, sym, ap, _∙_}
 use mathlib.Core.Logic.{_⊎_, inl, inr}
-use mathlib.Core.List.{List, [], _∷_}
-use native.Mathlib.Nat.{zero-add, add-zero}
+use mathlib.Core.List.{List}
+use native.Mathlib.Nat.{zero-add}
 use native.Mathlib.Omega.{arith}
 use lib.IntN.{ℤ}
-use lib.ListN.{length, take, drop, getD, length-take, length-drop}
-use lib.Seq.{getD-take, getD-drop, sets}
+use lib.ListN.{length, take, drop, getD}
+use lib.Seq.{sets}
 use borrow.Author.Tests.{le-ltb}
 use Rattle.laws.proofs.Parts.{tail}
-use Rattle.varint.specs.declared.Cause.{Cause}
 use Rattle.varint.specs.declared.Varint.{Varint}
 use Rattle.varint.specs.declared.Varint.the-variants as vi
 use Rattle.varint.specs.Varint.{varintOf}
-use Rattle.varint.proofs.Laws.{length-bounds}
-use Rattle.varint.proofs.Laws as varint
 use Rattle.reading.specs.declared.Reading.{Reading}
 use Rattle.reading.specs.Reading.{limit}
-use Rattle.reading.proofs.Laws.{takes-five}
 use Rattle.serial.specs.declared.Width.the-variants as wi
 use Rattle.serial.specs.Serial.{widthOf}
-use Rattle.record.specs.Types.{num, Types, done, broken, column, typesOf, count, walk}
-use Rattle.record.proofs.Laws.{types-nil, types-broken}
+use Rattle.record.specs.Types.{count, walk}
+use Rattle.record.proofs.Laws.{none-counted}
 use Rattle.record.proofs.Room.{Past}
 use Rattle.record.proofs.Room as room
 use Rattle.columns.specs.declared.Cursor.{Cursor}
 use Rattle.columns.specs.declared.Stepped.the-variants.{Column, Done}
-use Rattle.columns.specs.Columns.{typesAt, behind, stepIn, stepOf}
-use Rattle.columns.proofs.Laws.{ahead, types-behind, step-passes}
+use Rattle.columns.specs.Columns.{typesAt, behind, stepOf}
+use Rattle.columns.proofs.Laws.{ahead, types-behind, type-byte, step-passes, step-none}
 use Rattle.exports.specs.declared.types.Value.{Value}
 use Rattle.exports.specs.Turns.{filledOf}
 use Rattle.exports.specs.Batch.{wordsOf, valueAt, runFrom, filledBy, over}
@@ -48,32 +44,6 @@ pub at-first : (c : Cursor) (columns : ℕ) (db : List ℕ) → Whole c columns 
 at-first c columns db w =
     record { reading = refl; ordered = w .ordered; within = w .within; past = w .past; counted = zero-add (count (typesAt c db)) ∙ w .columns }
 
--- THE BYTES OF A TYPE
-
--- no type is counted where none is read
-none-counted : (limit : ℕ) (s : List ℕ) {cause : Cause} → varintOf limit s ≡ vi.Unfinished cause → count (typesOf limit s) ≡ 0
-none-counted limit [] e = ap count (types-nil limit)
-none-counted limit (b ∷ s) e = ap count (types-broken limit (b ∷ s) (omega arith) e)
-
-module _ (c : Cursor) (db : List ℕ) {t m : ℕ} (e : varintOf (limit (c .reading)) (ahead c db) ≡ vi.Value t m) where
-  -- there is one
-  pub type-within : (c .at < c .stop) × (c .at < length db)
-  type-within = let b = simp (length-take, length-drop) at (length-bounds (ahead c db) (limit (c .reading)) e) in omega arith
-
-  first-byte : getD (ahead c db) 0 0 ≡ getD db (c .at) 0
-  first-byte =
-      let w = type-within in
-      let l : 0 < c .stop - c .at = omega arith in
-      rw (getD-take, getD-drop, add-zero)
-
-  -- a byte below 128 is the type
-  pub one-byte : getD db (c .at) 0 < 128 → (t ≡ getD db (c .at) 0) × (m ≡ 1)
-  one-byte h =
-      let b = length-bounds (ahead c db) (limit (c .reading)) e in
-      let l = varint.one-byte (ahead c db) (limit (c .reading)) (omega (arith, takes-five (c .reading))) (omega arith) (rw first-byte h) in
-      let v = sym (rw first-byte at l) ∙ e in
-      (cc, cc)
-
 -- ONE COLUMN MORE
 
 -- its type t of m bytes, its value of w bytes, and the step there
@@ -89,13 +59,7 @@ pub record Next (r : Reading) (columns : ℕ) (db : List ℕ) (c : Cursor) (n : 
 
 module _ {r : Reading} {columns : ℕ} (db : List ℕ) (c : Cursor) (n : ℕ) (h : Left r columns db c n) where
   pub none-left : columns ≤ n → stepOf c db ≡ Done
-  unfolding stepOf stepIn
-  none-left l = go (typesAt c db) (omega (arith, h .counted))
-    where
-      go : (ts : Types) → count ts ≡ 0 → stepIn c ts ≡ Done
-      go done e = refl
-      go broken e = refl
-      go (column (num t m) rest) e = absurd (omega arith)
+  none-left l = step-none c db (omega (arith, h .counted))
 
   pub next : n < columns → Next r columns db c n
   next l = go (varintOf (limit (c .reading)) (ahead c db)) refl
@@ -127,7 +91,7 @@ module _ {r : Reading} {columns : ℕ} (db : List ℕ) (c : Cursor) (n : ℕ) (h
 -- where the type is one byte
 module _ {r : Reading} {columns : ℕ} (db : List ℕ) (c : Cursor) (n : ℕ) (h : Left r columns db c n) (x : Next r columns db c n) (b : getD db (c .at) 0 < 128) where
   type-is : (x .t ≡ getD db (c .at) 0) × (x .m ≡ 1)
-  type-is = one-byte c db (x .read) b
+  type-is = type-byte c db (x .read) b
 
   pub byte-width : widthOf (getD db (c .at) 0) ≡ wi.Bytes (x .w)
   byte-width = rw (type-is .0) at (x .width)

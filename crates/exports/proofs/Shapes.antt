@@ -8,14 +8,11 @@ use lib.Dec.{ltb, eqb}
 use lib.IntN.{ℤ}
 use lib.ListN.{drop}
 use lib.Seq.{sets}
-use borrow.Author.Tests.{le-ltb, ne-eqb, ltb-true, ltb-false}
+use borrow.Author.Tests.{le-ltb, ne-eqb}
 use Rattle.laws.specs.Pick.{pick}
-use Rattle.laws.proofs.Never.{never}
 use Rattle.reading.specs.declared.Reading.{Reading}
 use Rattle.reading.specs.declared.Reading.the-variants.{Old as old, File as file}
-use Rattle.serial.specs.declared.Width.the-variants as wi
 use Rattle.serial.specs.Serial.{isBlob, lengthOf, widthOf}
-use Rattle.serial.proofs.Laws.{width-reserved, width-long}
 use Rattle.values.specs.declared.old.Value.the-variants as ov
 use Rattle.values.specs.declared.file.Value.the-variants as fv
 use Rattle.values.specs.Old as old-values
@@ -49,14 +46,6 @@ by-long shape kind at s h =
       ne-eqb kind 8 (omega arith),
       ne-eqb kind 9 (omega arith),
     )
-
--- one that has a width is a text or a blob
-pub long-width : (kind : ℕ) {w : ℕ} → 10 ≤ kind → widthOf kind ≡ wi.Bytes w → (12 ≤ kind) × (w ≡ lengthOf kind)
-long-width kind {w} h e = go (ltb kind 12) refl
-  where
-    go : (b : Bool) → ltb kind 12 ≡ b → (12 ≤ kind) × (w ≡ lengthOf kind)
-    go true d = let r = sym (width-reserved kind h (ltb-true kind 12 d)) ∙ e in never cc
-    go false d = let l = ltb-false kind 12 d in let r = sym (width-long kind l) ∙ e in (l, cc)
 
 -- the turn of what a test picks is the test's pick of the turns
 module _ (at len : ℕ) where

@@ -17,7 +17,7 @@ use Rattle.varint.proofs.Laws.{length-bounds}
 use Rattle.serial.specs.declared.Width.the-variants as wi
 use Rattle.serial.specs.Serial.{widthOf}
 use Rattle.record.specs.declared.Laid.the-variants.{Reserved, Passes}
-use Rattle.record.specs.Types.{num, Types, done, broken, column, typed, types, typesOf, nthType, walk}
+use Rattle.record.specs.Types.{num, Types, done, broken, column, typed, types, typesOf, count, nthType, walk}
 
 -- TYPES
 
@@ -62,6 +62,11 @@ module _ (limit : ℕ) (s : List ℕ) where
 
   pub types-broken : {c : Cause} → 0 < length s → varintOf limit s ≡ vi.Unfinished c → typesOf limit s ≡ broken
   types-broken h e = opened limit s h ∙ rw e
+
+-- no type is counted where none is read
+pub none-counted : (limit : ℕ) (s : List ℕ) {c : Cause} → varintOf limit s ≡ vi.Unfinished c → count (typesOf limit s) ≡ 0
+none-counted limit [] e = ap count (types-nil limit)
+none-counted limit (b ∷ s) e = ap count (types-broken limit (b ∷ s) (omega arith) e)
 
 -- at a place of the bytes, where the code hands `&t[at..]` on
 module _ (limit : ℕ) (t : List ℕ) (at : ℕ) where

@@ -1,12 +1,13 @@
 -- What callers cite of serial types.
 use Prim.Native.Nat.{ℕ, zero-le, _+_, _-_, _/_, _%_, _≤_, _<_}
-use mathlib.Core.Path.{_≡_, refl}
+use mathlib.Core.Path.{_≡_, refl, sym, _∙_}
 use mathlib.Core.Bool.{Bool, true, false}
 use native.Mathlib.Omega.{arith}
-use lib.Dec.{eqb}
+use lib.Dec.{ltb, eqb}
 use lib.ListN.{getD, List·getD-eq-default}
-use borrow.Author.Tests.{lt-ltb, le-ltb, eqb-false}
+use borrow.Author.Tests.{lt-ltb, le-ltb, ltb-true, ltb-false, eqb-false}
 use Rattle.laws.specs.Pick.{pick}
+use Rattle.laws.proofs.Never.{never}
 use Rattle.tables.specs.Tables.{widths}
 use Rattle.serial.specs.declared.Width.the-variants.{Bytes, Reserved}
 use Rattle.serial.specs.Serial.{lengthOf, widthOf}
@@ -47,3 +48,11 @@ module _ (kind : ℕ) where
   pub width-long : 12 ≤ kind → widthOf kind ≡ Bytes (lengthOf kind)
   unfolding widthOf
   width-long h = rw (le-ltb kind 10 (omega arith), le-ltb kind 12 h)
+
+  -- past the table, a type that has a width is a text or a blob
+  pub width-past : {w : ℕ} → 10 ≤ kind → widthOf kind ≡ Bytes w → (12 ≤ kind) × (w ≡ lengthOf kind)
+  width-past {w} h e = go (ltb kind 12) refl
+    where
+      go : (b : Bool) → ltb kind 12 ≡ b → (12 ≤ kind) × (w ≡ lengthOf kind)
+      go true d = let r = sym (width-reserved h (ltb-true kind 12 d)) ∙ e in never cc
+      go false d = let l = ltb-false kind 12 d in let r = sym (width-long l) ∙ e in (l, cc)

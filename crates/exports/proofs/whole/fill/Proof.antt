@@ -11,7 +11,8 @@ use Rattle.serial.specs.declared.Width.the-variants.{Bytes}
 use Rattle.exports.specs.Whole.{valueBy, bytesIn}
 use Rattle.exports.proofs.Filling.{Held}
 use Rattle.exports.proofs.Filling as filling
-use Rattle.exports.proofs.Checked.{Left, Next, at-first, next, type-within, byte-width, byte-value, byte-behind, step-value, step-behind, goes-on, comes-to-end, smaller}
+use Rattle.columns.proofs.Laws.{type-within}
+use Rattle.exports.proofs.Checked.{Left, Next, at-first, next, byte-width, byte-value, byte-behind, step-value, step-behind, goes-on, comes-to-end, smaller}
 use Rattle.exports.proofs.whole.fill.Statement.{statement}
 use Rattle.exports.proofs.whole.fill.Tie as tie
 

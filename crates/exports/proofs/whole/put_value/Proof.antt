@@ -9,11 +9,11 @@ use mir.Facts.{toZ-ofZ}
 use denote.Ref.{now}
 use Rattle.laws.proofs.Casts.{widen-fits, widen-same}
 use Rattle.serial.specs.Serial.{widthOf}
-use Rattle.serial.proofs.Laws.{ten}
+use Rattle.serial.proofs.Laws.{ten, width-past}
 use Rattle.exports.specs.Turns.{integerOf, realOf}
 use Rattle.exports.specs.Batch.{wordsOf}
 use Rattle.exports.specs.Whole.{longFrom, valueBy}
-use Rattle.exports.proofs.Shapes.{stored-as, by-long, long-width}
+use Rattle.exports.proofs.Shapes.{stored-as, by-long}
 use borrow.Author.Needs.{needs}
 use Rattle.exports.proofs.whole.put_value.Statement.{statement}
 use Rattle.exports.proofs.whole.put_value.Tie as tie
@@ -142,7 +142,7 @@ put-at-requires-10 c κs = search needs
 put-long-requires : tie.Need-put-long-requires
 put-long-requires c κs = let a = c .before .before .before .args in
     let p = c .before .before .before .pre in
-    let l = long-width (a .kind) (ten (c .before .match .rest)) (p .1) in
+    let l = width-past (a .kind) (ten (c .before .match .rest)) (p .1) in
     (p .0, l .0, rw (l .1) at (p .2))
 
 same-length : tie.Need-same-length
@@ -258,7 +258,7 @@ same-length-11 c = search needs
 returns-11 : tie.Need-returns-11
 returns-11 c = let a = c .before .before .before .before .before .args in
     let h = ten (c .before .before .before .match .rest) in
-    let l = long-width (a .kind) h (c .before .before .before .before .before .pre .1) in
+    let l = width-past (a .kind) h (c .before .before .before .before .before .pre .1) in
     let e : longFrom (a .shape .least) (a .kind) (a .at) ≡ valueBy (a .shape) (a .kind) (a .at) (now (a .part)) = sym (by-long (a .shape) (a .kind) (a .at) (now (a .part)) h) in
     (c .before .put-long .ensures .0 ∙ ap (λ n. a .at + n) (sym (l .1)), c .before .put-long .ensures .1 ∙ ap (λ v. sets (now (a .table)) (a .place) (wordsOf v)) e)
 
