@@ -1,6 +1,6 @@
 -- A row that is found was checked: its columns are all there.
 use Prim.Native.Nat.{ℕ, _-_}
-use mathlib.Core.Path.{_≡_, refl, _∙_}
+use mathlib.Core.Path.{_≡_, refl}
 use mathlib.Core.List.{List}
 use mathlib.Core.Bool.{Bool, true, false}
 use Rattle.laws.proofs.Never.{never}
@@ -14,8 +14,6 @@ use Rattle.page.specs.declared.Open.{Open}
 use Rattle.page.specs.declared.Located.{Located}
 use Rattle.page.specs.declared.Located.the-variants as lo
 use Rattle.page.specs.Located.{againOf}
-use Rattle.row.specs.declared.FoundAnswer.{FoundAnswer}
-use Rattle.row.specs.declared.FoundAnswer.the-variants as fo
 use Rattle.row.specs.Row as plain
 use Rattle.row.specs.Row.{cursorIn, foundBy}
 use Rattle.row.proofs.Placed.{placed-again}

@@ -9,7 +9,6 @@ use Rattle.reading.specs.declared.Reading.the-variants.{Old as old, File as fil
 use Rattle.values.specs.Old as ov
 use Rattle.values.specs.File as fv
 use Rattle.columns.specs.declared.Cursor.{Cursor}
-use Rattle.columns.specs.declared.Stepped.{Stepped}
 use Rattle.columns.specs.declared.Stepped.the-variants.{Column, Done}
 use Rattle.columns.specs.Columns.{stepOf}
 use Rattle.exports.specs.declared.types.Value.{Value}

@@ -1,5 +1,4 @@
 -- A cursor that the guarded reading opens goes along as one of the file reading.
-use mathlib.Core.Path.{_≡_}
 use Rattle.row.proofs.Columns.{file-from}
 use Rattle.guarded.specs.Guarded.{shownOf}
 use Rattle.guarded.specs.Agreement.{CursorShows}

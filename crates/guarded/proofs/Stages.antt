@@ -9,7 +9,6 @@ use Rattle.laws.proofs.Never.{never}
 use Rattle.answers.specs.declared.Reason.{Reason}
 use Rattle.answers.specs.declared.Reason.the-variants as re
 use Rattle.answers.specs.declared.Refusal.{Refusal}
-use Rattle.answers.specs.declared.Refusal.the-variants.{Plain}
 use Rattle.reading.specs.Reading.{limit}
 use Rattle.record.specs.Types.{typesOf}
 use Rattle.cell.specs.declared.Kind.{Kind}

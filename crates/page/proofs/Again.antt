@@ -10,11 +10,10 @@ use Rattle.laws.specs.Pick.{pick}
 use Rattle.laws.proofs.Never.{never}
 use Rattle.page.specs.declared.Open.{Open}
 use Rattle.page.specs.declared.OpenAnswer.the-variants as oa
-use Rattle.page.specs.Place.{pageAt}
-use Rattle.page.specs.Open.{pointersEnd, openOf, Fitting}
+use Rattle.page.specs.Open.{pointersEnd, openOf}
 use Rattle.page.specs.Located.{locatedOf, liesIn, againOf}
 use Rattle.page.proofs.Laws.{page-length}
-use Rattle.page.proofs.Opened.{Opened, open-fits}
+use Rattle.page.proofs.Opened.{Opened, end-short, open-fits}
 
 -- whether it lies there, by the tests of the code
 module _ (bytes : ℕ) (o : Open) where
@@ -53,8 +52,7 @@ lies-opened o db e = go (ltb (length db) (o .at + o .size)) (ltb (o .size) (o .e
         }
 
 opened-lies : (o : Open) (db : List ℕ) → Opened o db → liesIn (length db) o ≡ true
-opened-lies o db p =
-    lies-there (length db) o (p .there) (rw (page-length (o .at) (o .size) db (p .there)) at (p .fits .within)) (p .fits .pointers)
+opened-lies o db p = lies-there (length db) o (p .there) (end-short o db p) (p .fits .pointers)
 
 pub cells-again : (key i : ℕ) (db : List ℕ) (o : Open) → openOf key db ≡ oa.Shown o → againOf o i db ≡ locatedOf key i db
 unfolding againOf locatedOf

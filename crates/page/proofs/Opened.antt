@@ -5,7 +5,8 @@ use mathlib.Core.List.{List}
 use mathlib.Core.Bool.{Bool, true, false}
 use native.Mathlib.Omega.{arith}
 use lib.Dec.{ltb}
-use lib.ListN.{length}
+use lib.ListN.{length, drop, length-drop}
+use lib.Seq.{length-take-le}
 use borrow.Author.Tests.{ltb-false}
 use Rattle.laws.specs.Pick.{pick}
 use Rattle.reading.specs.declared.Reading.{Reading}
@@ -21,12 +22,23 @@ use Rattle.page.specs.declared.KindAnswer.the-variants.{Known, Unknown}
 use Rattle.page.specs.declared.Open.{Open}
 use Rattle.page.specs.declared.OpenAnswer.the-variants as oa
 use Rattle.page.specs.Place.{readingIn, numberIn, placeOf, pageAt, Lies}
+use Rattle.page.specs.Entry.{partAt}
 use Rattle.page.specs.Open.{kindAt, cellsAt, pointersEnd, opened, openedBy, placedBy, shapedBy, openOf, Fitting}
 use Rattle.page.proofs.Laws.{place-lies, page-length, end-within}
 
 pub record Opened (o : Open) (db : List ℕ) : Type 0 where
   pub there : o .at + o .size ≤ length db
   pub fits : Fitting o (pageAt (o .at) (o .size) db)
+
+-- its cells end in it, and the part of it that begins at p runs up to there
+module _ (o : Open) (db : List ℕ) (is : Opened o db) where
+  pub end-short : o .end ≤ o .size
+  end-short = rw (page-length (o .at) (o .size) db (is .there)) at (is .fits .within)
+
+  pub part-length : (p : ℕ) → length (partAt o p (pageAt (o .at) (o .size) db)) ≡ o .end - p
+  part-length p =
+      length-take-le (o .end - p) (drop p (pageAt (o .at) (o .size) db))
+      (rw (length-drop, page-length (o .at) (o .size) db (is .there)) (omega (arith, end-short)))
 
 -- stage by stage, as the definition goes
 module _ (r : Reading) (db : List ℕ) (o : Open) where

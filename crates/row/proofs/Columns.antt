@@ -7,7 +7,6 @@ use Rattle.laws.proofs.Never.{never}
 use Rattle.answers.specs.declared.Reason.the-variants as re
 use Rattle.answers.specs.declared.Refusal.the-variants.{Plain}
 use Rattle.serial.specs.declared.Width.the-variants as wi
-use Rattle.serial.specs.Serial.{widthOf}
 use Rattle.record.specs.Types.{walk}
 use Rattle.record.proofs.Room.{fits-past}
 use Rattle.columns.specs.declared.Cursor.{Cursor}
@@ -30,7 +29,7 @@ use Rattle.row.specs.Row.{countBy, countOf, cursorIn, cursorBy, cursorOf
 use Rattle.row.specs.Old as old
 use Rattle.row.specs.File as file
 use Rattle.row.specs.Columns.{There, AsManyAsCounted, Extents, NoGap, CursorShows}
-use Rattle.row.proofs.Placed.{Placed, placed}
+use Rattle.row.proofs.Placed.{placed}
 
 -- AS SLOTS
 

@@ -5,8 +5,8 @@ use mathlib.Core.Path.{_≡_, refl, sym, ap, subst, _∙_}
 use mathlib.Core.List.{List}
 use mathlib.Core.Bool.{Bool, true, false}
 use native.Mathlib.Omega.{arith}
-use lib.ListN.{length, take, drop, length-drop}
-use lib.Seq.{drop-drop, length-take-le}
+use lib.ListN.{length, take, drop}
+use lib.Seq.{drop-drop}
 use Rattle.laws.specs.Pick.{pick}
 use Rattle.laws.proofs.Never.{never}
 use Rattle.laws.proofs.Parts.{part}
@@ -16,7 +16,7 @@ use Rattle.reading.specs.declared.Reading.{Reading}
 use Rattle.reading.specs.declared.Reading.the-variants.{Old as old, File as file}
 use Rattle.reading.specs.Reading.{limit}
 use Rattle.record.specs.declared.Fit.the-variants.{Fits}
-use Rattle.record.specs.Types.{Types, typesOf, count, walk}
+use Rattle.record.specs.Types.{typesOf, count, walk}
 use Rattle.record.specs.Record.{counted, judged}
 use Rattle.cell.specs.declared.Cell as dc
 use Rattle.cell.specs.Cell.{cell, numOf, cellOf}
@@ -30,8 +30,7 @@ use Rattle.page.specs.declared.Located.the-variants as lo
 use Rattle.page.specs.Place.{pageAt}
 use Rattle.page.specs.Entry.{partAt}
 use Rattle.page.specs.Located.{locatedIn, locatedOf, liesIn, againOf}
-use Rattle.page.proofs.Laws.{page-length}
-use Rattle.page.proofs.Opened.{Opened, open-fits}
+use Rattle.page.proofs.Opened.{Opened, end-short, part-length, open-fits}
 use Rattle.page.proofs.Found.{Held, opened-found, found}
 use Rattle.page.proofs.Again.{lies-opened}
 use Rattle.row.specs.Row.{cursorIn, Lying}
@@ -46,7 +45,7 @@ pub record Placed (o : Open) (p : ℕ) (c : dc.Cell) (db : List ℕ) : Type 0 wh
       ≡ Fits (count (typesAt (cursorIn o p c) db)) left
 
 -- an end in a part that begins at `from`, counted from before it
-end-from : (r : Reading) (from pay size n end : ℕ) → from + n ≡ end → valuesEnd r (from + pay) size end ≡ from + valuesEnd r pay size n
+pub end-from : (r : Reading) (from pay size n end : ℕ) → from + n ≡ end → valuesEnd r (from + pay) size end ≡ from + valuesEnd r pay size n
 end-from old from pay size n end e = sym e
 end-from file from pay size n end e = omega arith
 
@@ -73,10 +72,10 @@ module _ (o : Open) (p : ℕ) (c : dc.Cell) (db : List ℕ) (op : Opened o db) (
   lies = inside (o .reading) (o .kind) (o .end) s (k .is)
 
   short : o .end ≤ o .size
-  short = rw (page-length (o .at) (o .size) db (op .there)) at (op .fits .within)
+  short = end-short o db op
 
   s-length : length s ≡ o .end - p
-  s-length = length-take-le (o .end - p) (drop p page) (rw (length-drop, page-length (o .at) (o .size) db (op .there)) (omega (arith, short)))
+  s-length = part-length o db op p
 
   -- the end of the values
   end-is : cursorIn o p c .end ≡ o .at + p + valuesEnd (o .reading) pay (c .size .value) (length s)

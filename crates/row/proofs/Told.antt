@@ -1,6 +1,5 @@
 -- What a found cell tells of the calls on it.
-use Prim.Native.Nat.{ℕ}
-use mathlib.Core.Path.{_≡_, refl, subst}
+use mathlib.Core.Path.{_≡_}
 use Rattle.laws.proofs.Never.{never}
 use Rattle.answers.specs.declared.Refusal.{Refusal}
 use Rattle.cell.specs.declared.Kind.{Kind}
@@ -13,7 +12,7 @@ use Rattle.row.specs.declared.FoundAnswer.the-variants as fo
 use Rattle.row.specs.declared.CountAnswer.the-variants as co
 use Rattle.row.specs.declared.RowAnswer.the-variants as ro
 use Rattle.row.specs.declared.CursorAnswer.the-variants as cu
-use Rattle.row.specs.Row.{countBy, rowBy, cursorIn, foundBy, cursorBy}
+use Rattle.row.specs.Row.{countBy, rowBy, foundBy, cursorBy}
 
 pub told-refused : (x : Located) {refusal : Refusal} → foundBy x ≡ fo.Refused refusal
     → (countBy x ≡ co.Refused refusal) × (rowBy x ≡ ro.Refused refusal) × (cursorBy x ≡ cu.Refused refusal)

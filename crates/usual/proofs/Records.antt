@@ -1,6 +1,6 @@
 -- A record whose header size is one byte, and the row that has it, put together from what the short way saw of them.
 use Prim.Native.Nat.{ℕ, _+_, _-_, _≤_, _<_}
-use mathlib.Core.Path.{_≡_, refl, sym, ap, _∙_}
+use mathlib.Core.Path.{_≡_, refl, sym, _∙_}
 use mathlib.Core.List.{List}
 use mathlib.Core.Bool.{Bool}
 use native.Mathlib.Omega.{arith}
@@ -15,8 +15,8 @@ use Rattle.reading.specs.Reading.{limit}
 use Rattle.reading.proofs.Laws.{takes-five}
 use Rattle.record.specs.declared.Laid.the-variants.{Ends}
 use Rattle.record.specs.declared.Fit.the-variants.{Fits}
-use Rattle.record.specs.Types.{Types, typesOf, count, walk}
-use Rattle.record.specs.Record.{counted, judged, typesIn, fitted}
+use Rattle.record.specs.Types.{Types, typesOf, count}
+use Rattle.record.specs.Record.{counted, judged, fitted}
 use Rattle.record.proofs.Count.{fits-count}
 use Rattle.record.proofs.Stages.{fit-laid}
 use Rattle.record.proofs.Accepted.{record-again}

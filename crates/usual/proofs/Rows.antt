@@ -4,13 +4,12 @@ use mathlib.Core.Path.{_≡_, refl, sym, ap, subst, _∙_}
 use mathlib.Core.List.{List}
 use mathlib.Core.Bool.{Bool, true, false}
 use native.Mathlib.Omega.{arith}
-use lib.ListN.{length, take, drop, length-drop}
-use lib.Seq.{length-take-le}
+use lib.ListN.{length, take, drop}
 use borrow.Author.Tests.{lt-ltb, le-ltb, lt-leb}
 use Rattle.fields.specs.Fields.{unsigned}
 use Rattle.reading.specs.declared.Reading.{Reading}
 use Rattle.reading.specs.declared.Reading.the-variants.{Old as old, File as file}
-use Rattle.record.specs.Types.{num, Types, column, count}
+use Rattle.record.specs.Types.{num}
 use Rattle.cell.specs.declared.Kind.the-variants.{LeafTable}
 use Rattle.cell.specs.declared.Cell as dc
 use Rattle.cell.specs.declared.CellAnswer.the-variants as ca
@@ -20,40 +19,39 @@ use Rattle.cell.proofs.Leaf.{leaf-again}
 use Rattle.columns.specs.declared.Cursor.{Cursor}
 use Rattle.columns.specs.Columns.{typesAt}
 use Rattle.marks.specs.declared.Marking.the-variants.{Clear}
-use Rattle.marks.specs.Marks.{lowest}
 use Rattle.page.specs.declared.Open.{Open}
 use Rattle.page.specs.declared.Located.the-variants as lo
 use Rattle.page.specs.Place.{pageAt}
 use Rattle.page.specs.Open.{pointersAt, pointersEnd}
-use Rattle.page.specs.Entry.{pointerAt, outside, partAt, cellIn}
+use Rattle.page.specs.Entry.{pointerAt, outside, partAt, cellBy, cellIn}
 use Rattle.page.specs.Located.{liesIn, againOf}
 use Rattle.page.proofs.Laws.{page-length}
-use Rattle.page.proofs.Opened.{Opened, part-is}
+use Rattle.page.proofs.Opened.{Opened, end-short, part-length, part-is}
 use Rattle.page.proofs.Again.{lies-opened}
 use Rattle.row.specs.declared.FoundAnswer.the-variants as fo
 use Rattle.row.specs.Row as plain
 use Rattle.row.specs.Row.{cursorIn}
-use Rattle.row.proofs.Placed.{placed-again}
+use Rattle.row.proofs.Placed.{end-from, placed-again}
 use Rattle.guarded.specs.Guarded.{markIn}
 use Rattle.guarded.specs.Steps as guarded
 use Rattle.usual.specs.declared.RowAnswer.the-variants.{Shown}
 use Rattle.usual.specs.declared.Place.{Place}
 use Rattle.usual.specs.Usual.{foundIn, rowIn}
-use Rattle.usual.specs.Short.{Clean, Start}
+use Rattle.usual.specs.Short.{Start}
 use Rattle.usual.proofs.Types.{clear-clean}
 use Rattle.usual.proofs.Records.{counted-one}
 
 -- WHERE A TABLE LEAF LIES
 
 module _ (o : Open) (db : List ℕ) (kind : o .kind ≡ LeafTable) (lies : liesIn (length db) o ≡ true) where
-  opened : Opened o db
+  pub opened : Opened o db
   opened = lies-opened o db lies
 
   pub there : o .at + o .size ≤ length db
   there = opened .there
 
   pub short : o .end ≤ o .size
-  short = rw (page-length (o .at) (o .size) db there) at (opened .fits .within)
+  short = end-short o db opened
 
   pub head : o .from + 8 + 2 * o .cells ≤ o .end
   head = subst (λ k. pointersEnd (o .from) k (o .cells) ≤ o .end) kind (opened .fits .pointers)
@@ -76,24 +74,15 @@ not-outside : (r : Reading) (o : Open) (p : ℕ) → o .from ≤ p → pointersE
 not-outside old o p h l m = rw (le-ltb (o .end) p (omega arith), le-ltb p (o .from) h)
 not-outside file o p h l m = rw (le-ltb p (pointersEnd (o .from) (o .kind) (o .cells)) l, lt-leb (o .end) p m)
 
--- where values end, counted from before the part that begins at `at`
-ends-at : (r : Reading) (at from p n end payload : ℕ) → at + n ≡ end → valuesEnd r from p n ≡ from + payload
-    → valuesEnd r (at + from) p end ≡ at + from + payload
-ends-at old at from p n end payload e h = omega arith
-ends-at file at from p n end payload e h = omega arith
-
 module _ (g : Bool) (o : Open) (i : ℕ) (db : List ℕ) (kind : o .kind ≡ LeafTable) (lies : liesIn (length db) o ≡ true) (below : i < o .cells) where
   abbrev page : List ℕ
   page = pageAt (o .at) (o .size) db
 
-  abbrev p : ℕ
-  p = pointerAt o i page
+  module _ (p : ℕ) (named : p ≡ pointerAt o i page) (behind : pointersEnd (o .from) (o .kind) (o .cells) ≤ p) (before : p < o .end)
+      (x : Place) (b : Start g (o .reading) (o .end) (partAt o p page) x) where
+    abbrev s : List ℕ
+    s = partAt o p page
 
-  abbrev s : List ℕ
-  s = partAt o p page
-
-  module _ (behind : pointersEnd (o .from) (o .kind) (o .cells) ≤ p) (before : p < o .end)
-      (x : Place) (b : Start g (o .reading) (o .end) s x) where
     c : dc.Cell
     c = record {
       child = 0;
@@ -106,15 +95,15 @@ module _ (g : Bool) (o : Open) (i : ℕ) (db : List ℕ) (kind : o .kind ≡ Lea
     whole : cellOf (o .reading) (o .kind) (o .end) s ≡ cell 0 (num (b .p) (b .np)) (num (x .number) (b .nv)) (num (x .header) 1) (b .ts)
     whole = ap (λ k. cellOf (o .reading) k (o .end) s) kind ∙ leaf-again (o .reading) (o .end) s (b .leaf)
 
-    shown : cellIn o i page ≡ ca.Shown c
-    unfolding cellIn c
+    shown : cellBy o p page ≡ ca.Shown c
+    unfolding c
     shown =
         let h : o .from ≤ p = omega arith in
         rw (not-outside (o .reading) o p h behind before, whole, b .columns)
 
     located : againOf o i db ≡ lo.Shown o p c
-    unfolding againOf
-    located = rw (lies, lt-ltb i (o .cells) below, shown)
+    unfolding againOf cellIn
+    located = rw (lies, lt-ltb i (o .cells) below, ← named, shown)
 
     -- the types that the part has are those that the cursor comes to
     same : b .ts ≡ typesAt (cursorIn o p c) db
@@ -142,9 +131,6 @@ module _ (g : Bool) (o : Open) (i : ℕ) (db : List ℕ) (kind : o .kind ≡ Lea
       end = base + x .payload;
     }
 
-    long : length s ≡ o .end - p
-    long = length-take-le (o .end - p) (drop p page) (rw (length-drop, page-length (o .at) (o .size) db (there o db kind lies)) (omega (arith, short o db kind lies)))
-
     starts : plain.payloadIn o p c ≡ base
     unfolding c
     starts = ap (λ k. o .at + p + payloadAt k (b .np) (b .nv)) kind ∙ (let e = b .from in omega arith)
@@ -153,7 +139,9 @@ module _ (g : Bool) (o : Open) (i : ℕ) (db : List ℕ) (kind : o .kind ≡ Lea
     stops = rw (counted-one (o .reading)) (omega (arith, b .header))
 
     ends : valuesEnd (o .reading) base (b .p) (o .at + o .end) ≡ base + x .payload
-    ends = ends-at (o .reading) (o .at + p) (x .from) (b .p) (length s) (o .at + o .end) (x .payload) (omega (arith, long)) (b .ends)
+    ends =
+        let long = part-length o db (opened o db kind lies) p in
+        end-from (o .reading) (o .at + p) (x .from) (b .p) (length s) (o .at + o .end) (omega (arith, long)) ∙ rw (b .ends) (omega arith)
 
     same-cursor : cursorIn o p c ≡ cursor
     unfolding c

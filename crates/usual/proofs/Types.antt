@@ -3,17 +3,14 @@ use Prim.Native.Nat.{ℕ, _+_, _-_, _≤_, _<_}
 use mathlib.Core.Path.{_≡_, refl, sym, ap, _∙_}
 use mathlib.Core.Logic.{_⊎_, inl, inr}
 use mathlib.Core.List.{List}
-use mathlib.Core.Bool.{Bool, true, false, not, _||_}
+use mathlib.Core.Bool.{Bool, true, false}
 use native.Mathlib.Nat.{add-zero}
 use native.Mathlib.Omega.{arith}
-use lib.Dec.{eqb}
 use lib.ListN.{length, drop, getD, length-drop}
 use lib.Seq.{getD-drop}
 use borrow.Author.Tests.{ne-eqb, le-ltb}
 use Rattle.laws.specs.Pick.{pick}
 use Rattle.varint.proofs.Laws.{one-byte}
-use Rattle.serial.specs.declared.Width.the-variants as wi
-use Rattle.serial.specs.Serial.{widthOf}
 use Rattle.record.specs.declared.Laid.the-variants.{Ends}
 use Rattle.record.specs.Types.{num, Types, done, column, typesOf, walk}
 use Rattle.record.proofs.Laws.{types-at, types-end, walk-on}

@@ -3,7 +3,6 @@ use mathlib.Core.Path.{sym, ap, _∙_}
 use denote.Ref.{now}
 use Rattle.laws.proofs.Parts.{tail}
 use Rattle.cell.specs.Cell.{answerOf}
-use Rattle.cell.specs.Kind.{interior}
 use Rattle.cell.proofs.Laws.{child-cut, child-taken}
 use borrow.Author.Needs.{needs}
 use Rattle.cell.proofs.cell_of.Statement.{statement}

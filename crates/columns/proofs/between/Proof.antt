@@ -2,7 +2,7 @@
 use Prim.Native.Nat.{_-_}
 use mathlib.Core.Path.{_≡_, sym, _∙_}
 use native.Mathlib.Omega.{arith}
-use lib.ListN.{length, take, drop, length-drop, drop-of-length-le}
+use lib.ListN.{drop, length-drop, drop-of-length-le}
 use lib.Seq.{take-all, take-nil}
 use denote.Ref.{now}
 use Rattle.laws.proofs.Parts.{tail}

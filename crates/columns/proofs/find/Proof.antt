@@ -2,7 +2,6 @@
 use Prim.Native.Nat.{suc, _-_}
 use mathlib.Core.Path.{_≡_, refl, sym, _∙_}
 use native.Mathlib.Omega.{arith}
-use denote.Ref.{now}
 use Rattle.columns.specs.Columns.{slotOf}
 use Rattle.columns.proofs.Laws.{slot-done, slot-here, slot-next}
 use borrow.Author.Needs.{needs}

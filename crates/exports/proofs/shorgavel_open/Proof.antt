@@ -1,5 +1,5 @@
 -- The table leaf of the guarded reading, or the page of the key, turned.
-use mathlib.Core.Path.{_≡_, sym, _∙_}
+use mathlib.Core.Path.{sym, _∙_}
 use borrow.Author.Needs.{needs}
 use Rattle.exports.proofs.shorgavel_open.Statement.{statement}
 use Rattle.exports.proofs.shorgavel_open.Tie as tie

@@ -2,7 +2,7 @@
 use mathlib.Core.Path.{_≡_, refl, sym, ap, _∙_}
 use denote.Ref.{now}
 use lib.Dec.{eqb}
-use Rattle.usual.specs.declared.RowAnswer.the-variants.{Shown, Refused}
+use Rattle.usual.specs.declared.RowAnswer.the-variants.{Shown}
 use Rattle.exports.specs.Turns.{openOf, rowOf}
 use Rattle.exports.specs.Calls.{rowIn}
 use Rattle.exports.proofs.Rows.{found-whole}

@@ -1,6 +1,5 @@
 -- The upper field in two's complement and the lower behind it are the number of six bytes.
 use Prim.Native.Nat.{_*_, _^_, _≤_, _<_}
-use mathlib.Core.Path.{_≡_}
 use native.Mathlib.Omega.{arith}
 use lib.ListN.{length, drop}
 use lib.IntN.{ℤ, pos, _+ℤ_, _*ℤ_}

@@ -1,5 +1,5 @@
 -- A page that lies in the bytes is read as an opened one.
-use mathlib.Core.Path.{_≡_, sym, _∙_}
+use mathlib.Core.Path.{sym, _∙_}
 use native.Mathlib.Omega.{arith}
 use denote.Ref.{now}
 use Rattle.page.specs.Located.{againOf}

@@ -1,9 +1,5 @@
 -- The header's answer decides first, then the place.
-use mathlib.Core.Path.{_≡_, sym, _∙_}
-use denote.Ref.{now}
-use Rattle.header.specs.Header.{shapeOf}
-use Rattle.header.specs.declared.ShapeAnswer.the-variants as sh
-use Rattle.page.specs.Place.{readingIn}
+use mathlib.Core.Path.{sym, _∙_}
 use Rattle.page.specs.Open.{kindIn}
 use Rattle.page.proofs.Laws.{place-lies}
 use borrow.Author.Needs.{needs}

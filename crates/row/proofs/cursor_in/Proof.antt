@@ -1,5 +1,4 @@
 -- A cell that lies in the bytes has its columns in them.
-use mathlib.Core.Path.{sym, _∙_}
 use borrow.Author.Needs.{needs}
 use Rattle.row.proofs.cursor_in.Statement.{statement}
 use Rattle.row.proofs.cursor_in.Tie as tie

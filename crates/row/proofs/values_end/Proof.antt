@@ -1,5 +1,4 @@
 -- The reading says where the values end.
-use mathlib.Core.Path.{_≡_}
 use native.Mathlib.Omega.{arith}
 use borrow.Author.Needs.{needs}
 use Rattle.row.proofs.values_end.Statement.{statement}

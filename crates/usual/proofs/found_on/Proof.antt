@@ -4,21 +4,19 @@ use mathlib.Core.Path.{_≡_, subst, sym, _∙_}
 use mathlib.Core.List.{List}
 use mathlib.Core.Bool.{Bool, true}
 use native.Mathlib.Omega.{arith}
-use lib.ListN.{length, take, drop, length-drop}
-use lib.Seq.{length-take-le}
+use lib.ListN.{length}
 use denote.Ref.{now}
 use Rattle.laws.proofs.Parts.{tail}
 use Rattle.cell.specs.declared.Kind.the-variants.{LeafTable}
 use Rattle.page.specs.declared.Open.{Open}
 use Rattle.page.specs.Place.{pageAt}
 use Rattle.page.specs.Located.{liesIn}
+use Rattle.page.proofs.Opened.{part-length}
 use Rattle.page.specs.Open.{pointersEnd}
-use Rattle.page.specs.Entry.{pointerAt}
-use Rattle.usual.specs.declared.RowAnswer.the-variants.{Shown}
+use Rattle.page.specs.Entry.{pointerAt, partAt}
 use Rattle.usual.specs.declared.Place.{Place}
-use Rattle.usual.specs.Usual.{rowIn}
 use Rattle.usual.specs.Short.{Start, Begun}
-use Rattle.usual.proofs.Rows.{there, short, head, page-is, page-long, pointer-is, says}
+use Rattle.usual.proofs.Rows.{opened, there, short, head, page-is, page-long, pointer-is, says}
 use borrow.Author.Needs.{needs}
 use Rattle.usual.proofs.found_on.Statement.{statement}
 use Rattle.usual.proofs.found_on.Tie as tie
@@ -115,24 +113,20 @@ module _ (c : tie.After-known-told) where
   abbrev place : Place
   place = c .before .row .given .0 .0
 
-  abbrev page : List ℕ
-  page = take (o .at + o .size - o .at) (drop (o .at) db)
-
   kind : o .kind ≡ LeafTable
   kind = c .before .before .before .before .before .before .before .before .before .before .before .before .before .before .before .pre .0
 
   lies : liesIn (length db) o ≡ true
   lies = c .before .before .before .before .before .before .before .before .before .before .before .before .before .before .before .pre .1
 
-  seen : Start g (o .reading) (o .end) (take (o .end - p) (drop p page)) place
-  seen = subst (Begun g (o .reading) (o .end) (take (o .end - p) (drop p page))) (c .before .row .given .1) (c .before .before .before .row-of .ensures)
-
-  part-long : length (take (o .end - p) (drop p page)) ≡ o .end - p
-  part-long = length-take-le (o .end - p) (drop p page) (rw (length-drop, page-long o db kind lies) (omega (arith, short o db kind lies)))
+  seen : Start g (o .reading) (o .end) (partAt o p (pageAt (o .at) (o .size) db)) place
+  seen =
+      rw (page-is o db kind lies) at
+      (subst (Begun g (o .reading) (o .end) _) (c .before .row .given .1) (c .before .before .before .row-of .ensures))
 
   -- the pointer is the one that the page has
   named : p ≡ pointerAt o i (pageAt (o .at) (o .size) db)
-  named = rw (tail page (o .from + 8 + 2 * i), page-is o db kind lies) at (c .before .before .before .before .before .before .before .before .be-u16 .ensures) ∙ pointer-is o db kind lies i
+  named = rw (tail _ (o .from + 8 + 2 * i), page-is o db kind lies) at (c .before .before .before .before .before .before .before .before .be-u16 .ensures) ∙ pointer-is o db kind lies i
 
   behind : pointersEnd (o .from) (o .kind) (o .cells) ≤ p
   behind = subst (λ k. pointersEnd (o .from) k (o .cells) ≤ p) (sym kind) (c .before .before .before .before .before .before .if1 .left)
@@ -141,7 +135,9 @@ module _ (c : tie.After-known-told) where
   small = search needs
 
   bound : o .at + p + place .from + place .payload ≤ length db
-  bound = omega (arith, rw part-long at (seen .within), c .before .before .before .before .before .if2 .left, short o db kind lies, there o db kind lies)
+  bound =
+      let long = part-length o db (opened o db kind lies) p in
+      omega (arith, rw long at (seen .within), c .before .before .before .before .before .if2 .left, short o db kind lies, there o db kind lies)
 
 add-base : tie.Need-add-base
 add-base c = omega (arith, bound c)
@@ -168,16 +164,9 @@ add-t29 c = let k = c .before .before .before .before in
     record { fits = fits }
 
 returns-4 : tie.Need-returns-4
-returns-4 c = let k = c .before .before .before .before in
-    let e = named k in
-    let x = place k in
-    let base : ℕ → ℕ = λ m. o k .at + m + x .from in
-    let after = subst (λ m. pointersEnd (o k .from) (o k .kind) (o k .cells) ≤ m) e (behind k) in
-    let below = subst (λ m. m < o k .end) e (c .before .before .before .before .before .before .before .before .before .if2 .left) in
-    let part = subst (λ m. Start (g k) (o k .reading) (o k .end) (take (o k .end - m) (drop m (pageAt (o k .at) (o k .size) (db k)))) x) e (rw (page-is (o k) (db k) (kind k) (lies k)) at (seen k)) in
-    subst (λ m. rowIn (g k) (o k) (i k) (db k) ≡ Shown (x .number) (x .columns) (record { reading = o k .reading; at = base m + 1; stop = base m + x .header; value = base m + x .header; end = base m + x .payload }))
-    (sym e)
-    (says (g k) (o k) (i k) (db k) (kind k) (lies k) (c .before .before .before .before .before .before .before .before .before .before .before .before .before .before .before .before .before .before .before .pre .2) after below x part)
+returns-4 c =
+    let k = c .before .before .before .before in
+    says (g k) (o k) (i k) (db k) (kind k) (lies k) (c .before .before .before .before .before .before .before .before .before .before .before .before .before .before .before .before .before .before .before .pre .2) (p k) (named k) (behind k) (c .before .before .before .before .before .before .before .before .before .if2 .left) (place k) (seen k)
 
 pub found-on-spec : {M : Type 1} → statement M
 found-on-spec =

@@ -1,5 +1,5 @@
 -- By the marks of the types, and by how the plain form lays their values.
-use mathlib.Core.Path.{_≡_, sym, ap, _∙_}
+use mathlib.Core.Path.{_≡_, sym, _∙_}
 use mathlib.Core.Bool.{true}
 use mathlib.Core.Logic.{inl, inr}
 use denote.Ref.{now}

@@ -1,5 +1,5 @@
 -- By what was found.
-use mathlib.Core.Path.{ap, sym, _∙_}
+use mathlib.Core.Path.{ap, sym}
 use Rattle.usual.specs.Usual.{rowBy}
 use borrow.Author.Needs.{needs}
 use Rattle.usual.proofs.plain_of.Statement.{statement}

@@ -1,5 +1,5 @@
 -- What the short way says is the plain answer.
-use mathlib.Core.Path.{_≡_, subst, sym}
+use mathlib.Core.Path.{subst, sym}
 use denote.Ref.{now}
 use Rattle.usual.specs.Usual.{rowIn}
 use Rattle.usual.specs.Short.{Says}

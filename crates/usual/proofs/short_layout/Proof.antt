@@ -1,5 +1,5 @@
 -- At every turn, how the rest of the values lie in the rest of the bytes is how all of them lie; and no type so far is a mark.
-use Prim.Native.Nat.{_-_, _≤_, _<_}
+use Prim.Native.Nat.{_-_, _≤_}
 use mathlib.Core.Path.{subst}
 use native.Mathlib.Omega.{arith}
 use lib.ListN.{length, getD}
