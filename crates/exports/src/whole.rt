@@ -5,6 +5,7 @@ ghost use lib.ListN.{length};
 ghost use lib.Seq.{sets};
 ghost use Rattle.serial.specs.Serial.{lengthOf, widthOf};
 ghost use Rattle.serial.specs.declared.Width.the-variants.{Bytes};
+ghost use Rattle.exports.specs.Turns.{integerOf};
 ghost use Rattle.exports.specs.Batch.{wordsOf, runFrom, filledBy, over};
 ghost use Rattle.exports.specs.Whole.{Whole, shapeOf, longFrom, valueBy, bytesIn};
 use crate::batch;
@@ -68,6 +69,14 @@ fn put_at(table: &mut [i64], place: usize, value: Value, end: usize) -> usize
     end
 }
 
+// Stores an integer that is told to be of a width.
+fn put_integer(table: &mut [i64], place: usize, width: u8, integer: i64, end: usize) -> usize
+    requires { ⌜ place + 5 ≤ length (now table) ⌝ }
+    ensures { λ r. ⌜ (r ≡ end) × (now (table .exit) ≡ sets (now (table .entry)) place (wordsOf (integerOf width integer))) ⌝ }
+{
+    put_at(table, place, integer_of(width, integer), end)
+}
+
 // Stores a text or a blob, and answers where it ends.
 fn put_long(table: &mut [i64], place: usize, least: u64, kind: u64, at: usize) -> usize
     requires { ⌜ (place + 5 ≤ length (now table)) × (12 ≤ kind) × (at + lengthOf kind < 2 ^ 64) ⌝ }
@@ -99,35 +108,15 @@ fn put_value(
 {
     match kind {
         0 => put_at(table, place, empty_value(), at),
-        1 => put_at(
-            table,
-            place,
-            integer_of(shape.i8, be_i8(part) as i64),
-            at + 1,
-        ),
-        2 => put_at(
-            table,
-            place,
-            integer_of(shape.i16, be_i16(part) as i64),
-            at + 2,
-        ),
-        3 => put_at(
-            table,
-            place,
-            integer_of(shape.i32, be_i24(part) as i64),
-            at + 3,
-        ),
-        4 => put_at(
-            table,
-            place,
-            integer_of(shape.i32, be_i32(part) as i64),
-            at + 4,
-        ),
-        5 => put_at(table, place, integer_of(shape.i64, be_i48(part)), at + 6),
-        6 => put_at(table, place, integer_of(shape.i64, be_i64(part)), at + 8),
+        1 => put_integer(table, place, shape.i8, be_i8(part) as i64, at + 1),
+        2 => put_integer(table, place, shape.i16, be_i16(part) as i64, at + 2),
+        3 => put_integer(table, place, shape.i32, be_i24(part) as i64, at + 3),
+        4 => put_integer(table, place, shape.i32, be_i32(part) as i64, at + 4),
+        5 => put_integer(table, place, shape.i64, be_i48(part), at + 6),
+        6 => put_integer(table, place, shape.i64, be_i64(part), at + 8),
         7 => put_at(table, place, real_of(be_u64(part)), at + 8),
-        8 => put_at(table, place, integer_of(shape.i8, 0), at),
-        9 => put_at(table, place, integer_of(shape.i8, shape.one), at),
+        8 => put_integer(table, place, shape.i8, 0, at),
+        9 => put_integer(table, place, shape.i8, shape.one, at),
         _ => put_long(table, place, shape.least, kind, at),
     }
 }

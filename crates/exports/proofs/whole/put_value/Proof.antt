@@ -1,6 +1,6 @@
 -- At each type the definition computes to the reader that the code calls.
 use Prim.Native.Nat.{_+_}
-use mathlib.Core.Path.{_≡_, sym, ap, _∙_}
+use mathlib.Core.Path.{_≡_, refl, sym, ap, _∙_}
 use native.Mathlib.Nat.{add-zero}
 use native.Mathlib.Omega.{arith}
 use lib.Seq.{sets}
@@ -27,92 +27,74 @@ put-at-requires c κs = search needs
 be-i8-requires : tie.Need-be-i8-requires
 be-i8-requires c κs = search needs
 
-cast-integer-of : tie.Need-cast-integer-of
-cast-integer-of c = widen-fits w8 (c .be-i8 .result) (c .be-i8 .ok) tt
+cast-put-integer : tie.Need-cast-put-integer
+cast-put-integer c = widen-fits w8 (c .be-i8 .result) (c .be-i8 .ok) tt
 
-integer-of-requires : tie.Need-integer-of-requires
-integer-of-requires c κs = search needs
-
-add-put-at : tie.Need-add-put-at
+add-put-integer : tie.Need-add-put-integer
 unfolding widthOf
-add-put-at c = omega (arith, rw (c .before .before .before .match .keys2) at (c .before .before .before .before .before .pre .2))
+add-put-integer c = omega (arith, rw (c .before .before .match .keys2) at (c .before .before .before .before .pre .2))
 
-put-at-requires-2 : tie.Need-put-at-requires-2
-put-at-requires-2 c κs = search needs
+put-integer-requires : tie.Need-put-integer-requires
+put-integer-requires c κs = search needs
 
 be-i16-requires : tie.Need-be-i16-requires
 be-i16-requires c κs = search needs
 
-cast-integer-of-2 : tie.Need-cast-integer-of-2
-cast-integer-of-2 c = widen-fits w16 (c .be-i16 .result) (c .be-i16 .ok) tt
+cast-put-integer-2 : tie.Need-cast-put-integer-2
+cast-put-integer-2 c = widen-fits w16 (c .be-i16 .result) (c .be-i16 .ok) tt
 
-integer-of-requires-2 : tie.Need-integer-of-requires-2
-integer-of-requires-2 c κs = search needs
-
-add-put-at-2 : tie.Need-add-put-at-2
+add-put-integer-2 : tie.Need-add-put-integer-2
 unfolding widthOf
-add-put-at-2 c = omega (arith, rw (c .before .before .before .match .keys3) at (c .before .before .before .before .before .pre .2))
+add-put-integer-2 c = omega (arith, rw (c .before .before .match .keys3) at (c .before .before .before .before .pre .2))
 
-put-at-requires-3 : tie.Need-put-at-requires-3
-put-at-requires-3 c κs = search needs
+put-integer-requires-2 : tie.Need-put-integer-requires-2
+put-integer-requires-2 c κs = search needs
 
 be-i24-requires : tie.Need-be-i24-requires
 be-i24-requires c κs = search needs
 
-cast-integer-of-3 : tie.Need-cast-integer-of-3
-cast-integer-of-3 c = widen-fits w32 (c .be-i24 .result) (c .be-i24 .ok) tt
+cast-put-integer-3 : tie.Need-cast-put-integer-3
+cast-put-integer-3 c = widen-fits w32 (c .be-i24 .result) (c .be-i24 .ok) tt
 
-integer-of-requires-3 : tie.Need-integer-of-requires-3
-integer-of-requires-3 c κs = search needs
-
-add-put-at-3 : tie.Need-add-put-at-3
+add-put-integer-3 : tie.Need-add-put-integer-3
 unfolding widthOf
-add-put-at-3 c = omega (arith, rw (c .before .before .before .match .keys4) at (c .before .before .before .before .before .pre .2))
+add-put-integer-3 c = omega (arith, rw (c .before .before .match .keys4) at (c .before .before .before .before .pre .2))
 
-put-at-requires-4 : tie.Need-put-at-requires-4
-put-at-requires-4 c κs = search needs
+put-integer-requires-3 : tie.Need-put-integer-requires-3
+put-integer-requires-3 c κs = search needs
 
 be-i32-requires : tie.Need-be-i32-requires
 be-i32-requires c κs = search needs
 
-cast-integer-of-4 : tie.Need-cast-integer-of-4
-cast-integer-of-4 c = widen-fits w32 (c .be-i32 .result) (c .be-i32 .ok) tt
+cast-put-integer-4 : tie.Need-cast-put-integer-4
+cast-put-integer-4 c = widen-fits w32 (c .be-i32 .result) (c .be-i32 .ok) tt
 
-integer-of-requires-4 : tie.Need-integer-of-requires-4
-integer-of-requires-4 c κs = search needs
-
-add-put-at-4 : tie.Need-add-put-at-4
+add-put-integer-4 : tie.Need-add-put-integer-4
 unfolding widthOf
-add-put-at-4 c = omega (arith, rw (c .before .before .before .match .keys5) at (c .before .before .before .before .before .pre .2))
+add-put-integer-4 c = omega (arith, rw (c .before .before .match .keys5) at (c .before .before .before .before .pre .2))
 
-put-at-requires-5 : tie.Need-put-at-requires-5
-put-at-requires-5 c κs = search needs
+put-integer-requires-4 : tie.Need-put-integer-requires-4
+put-integer-requires-4 c κs = search needs
 
 be-i48-requires : tie.Need-be-i48-requires
 be-i48-requires c κs = search needs
 
-integer-of-requires-5 : tie.Need-integer-of-requires-5
-integer-of-requires-5 c κs = search needs
-
-add-put-at-5 : tie.Need-add-put-at-5
+add-put-integer-5 : tie.Need-add-put-integer-5
 unfolding widthOf
-add-put-at-5 c = omega (arith, rw (c .before .before .before .match .keys6) at (c .before .before .before .before .before .pre .2))
+add-put-integer-5 c = omega (arith, rw (c .before .before .match .keys6) at (c .before .before .before .before .pre .2))
 
-put-at-requires-6 : tie.Need-put-at-requires-6
-put-at-requires-6 c κs = search needs
+put-integer-requires-5 : tie.Need-put-integer-requires-5
+put-integer-requires-5 c κs = search needs
 
 be-i64-requires : tie.Need-be-i64-requires
 be-i64-requires c κs = search needs
 
-integer-of-requires-6 : tie.Need-integer-of-requires-6
-integer-of-requires-6 c κs = search needs
-
-add-put-at-6 : tie.Need-add-put-at-6
+add-put-integer-6 : tie.Need-add-put-integer-6
 unfolding widthOf
-add-put-at-6 c = omega (arith, rw (c .before .before .before .match .keys7) at (c .before .before .before .before .before .pre .2))
+add-put-integer-6 c = omega (arith, rw (c .before .before .match .keys7) at (c .before .before .before .before .pre .2))
 
-put-at-requires-7 : tie.Need-put-at-requires-7
-put-at-requires-7 c κs = search needs
+put-integer-requires-6 : tie.Need-put-integer-requires-6
+put-integer-requires-6 c κs = search needs
 
 be-u64-requires : tie.Need-be-u64-requires
 be-u64-requires c κs = search needs
@@ -120,24 +102,18 @@ be-u64-requires c κs = search needs
 real-of-requires : tie.Need-real-of-requires
 real-of-requires c κs = search needs
 
-add-put-at-7 : tie.Need-add-put-at-7
+add-put-at : tie.Need-add-put-at
 unfolding widthOf
-add-put-at-7 c = omega (arith, rw (c .before .before .before .match .keys8) at (c .before .before .before .before .before .pre .2))
+add-put-at c = omega (arith, rw (c .before .before .before .match .keys8) at (c .before .before .before .before .before .pre .2))
 
-put-at-requires-8 : tie.Need-put-at-requires-8
-put-at-requires-8 c κs = search needs
+put-at-requires-2 : tie.Need-put-at-requires-2
+put-at-requires-2 c κs = search needs
 
-integer-of-requires-7 : tie.Need-integer-of-requires-7
-integer-of-requires-7 c κs = search needs
+put-integer-requires-7 : tie.Need-put-integer-requires-7
+put-integer-requires-7 c κs = search needs
 
-put-at-requires-9 : tie.Need-put-at-requires-9
-put-at-requires-9 c κs = search needs
-
-integer-of-requires-8 : tie.Need-integer-of-requires-8
-integer-of-requires-8 c κs = search needs
-
-put-at-requires-10 : tie.Need-put-at-requires-10
-put-at-requires-10 c κs = search needs
+put-integer-requires-8 : tie.Need-put-integer-requires-8
+put-integer-requires-8 c κs = search needs
 
 put-long-requires : tie.Need-put-long-requires
 put-long-requires c κs = let a = c .before .before .before .args in
@@ -160,66 +136,66 @@ same-length-2 c = search needs
 
 returns-2 : tie.Need-returns-2
 unfolding valueBy widthOf
-returns-2 c = let a = c .before .before .before .before .before .before .before .args in
-    let b = c .before .before .before .be-i8 in
-    stored-as (a .shape) (a .kind) (a .at) (now (a .part)) (now (a .table)) (a .place) (c .before .before .before .before .before .match .keys2) (c .before .put-at2 .ensures .0)
-    (c .before .before .integer-of .ensures ∙ ap (integerOf (a .shape .i8)) (widen-same w8 (b .result) (b .ok) tt ∙ b .ensures))
-    (c .before .put-at2 .ensures .1)
+returns-2 c = let a = c .before .before .before .before .before .before .args in
+    let b = c .before .before .be-i8 in
+    stored-as (a .shape) (a .kind) (a .at) (now (a .part)) (now (a .table)) (a .place) (c .before .before .before .before .match .keys2) (c .before .put-integer .ensures .0)
+    (ap (integerOf (a .shape .i8)) (widen-same w8 (b .result) (b .ok) tt ∙ b .ensures))
+    (c .before .put-integer .ensures .1)
 
 same-length-3 : tie.Need-same-length-3
 same-length-3 c = search needs
 
 returns-3 : tie.Need-returns-3
 unfolding valueBy widthOf
-returns-3 c = let a = c .before .before .before .before .before .before .before .args in
-    let b = c .before .before .before .be-i16 in
-    stored-as (a .shape) (a .kind) (a .at) (now (a .part)) (now (a .table)) (a .place) (c .before .before .before .before .before .match .keys3) (c .before .put-at3 .ensures .0)
-    (c .before .before .integer-of2 .ensures ∙ ap (integerOf (a .shape .i16)) (widen-same w16 (b .result) (b .ok) tt ∙ b .ensures))
-    (c .before .put-at3 .ensures .1)
+returns-3 c = let a = c .before .before .before .before .before .before .args in
+    let b = c .before .before .be-i16 in
+    stored-as (a .shape) (a .kind) (a .at) (now (a .part)) (now (a .table)) (a .place) (c .before .before .before .before .match .keys3) (c .before .put-integer2 .ensures .0)
+    (ap (integerOf (a .shape .i16)) (widen-same w16 (b .result) (b .ok) tt ∙ b .ensures))
+    (c .before .put-integer2 .ensures .1)
 
 same-length-4 : tie.Need-same-length-4
 same-length-4 c = search needs
 
 returns-4 : tie.Need-returns-4
 unfolding valueBy widthOf
-returns-4 c = let a = c .before .before .before .before .before .before .before .args in
-    let b = c .before .before .before .be-i24 in
-    stored-as (a .shape) (a .kind) (a .at) (now (a .part)) (now (a .table)) (a .place) (c .before .before .before .before .before .match .keys4) (c .before .put-at4 .ensures .0)
-    (c .before .before .integer-of3 .ensures ∙ ap (integerOf (a .shape .i32)) (widen-same w32 (b .result) (b .ok) tt ∙ b .ensures))
-    (c .before .put-at4 .ensures .1)
+returns-4 c = let a = c .before .before .before .before .before .before .args in
+    let b = c .before .before .be-i24 in
+    stored-as (a .shape) (a .kind) (a .at) (now (a .part)) (now (a .table)) (a .place) (c .before .before .before .before .match .keys4) (c .before .put-integer3 .ensures .0)
+    (ap (integerOf (a .shape .i32)) (widen-same w32 (b .result) (b .ok) tt ∙ b .ensures))
+    (c .before .put-integer3 .ensures .1)
 
 same-length-5 : tie.Need-same-length-5
 same-length-5 c = search needs
 
 returns-5 : tie.Need-returns-5
 unfolding valueBy widthOf
-returns-5 c = let a = c .before .before .before .before .before .before .before .args in
-    let b = c .before .before .before .be-i32 in
-    stored-as (a .shape) (a .kind) (a .at) (now (a .part)) (now (a .table)) (a .place) (c .before .before .before .before .before .match .keys5) (c .before .put-at5 .ensures .0)
-    (c .before .before .integer-of4 .ensures ∙ ap (integerOf (a .shape .i32)) (widen-same w32 (b .result) (b .ok) tt ∙ b .ensures))
-    (c .before .put-at5 .ensures .1)
+returns-5 c = let a = c .before .before .before .before .before .before .args in
+    let b = c .before .before .be-i32 in
+    stored-as (a .shape) (a .kind) (a .at) (now (a .part)) (now (a .table)) (a .place) (c .before .before .before .before .match .keys5) (c .before .put-integer4 .ensures .0)
+    (ap (integerOf (a .shape .i32)) (widen-same w32 (b .result) (b .ok) tt ∙ b .ensures))
+    (c .before .put-integer4 .ensures .1)
 
 same-length-6 : tie.Need-same-length-6
 same-length-6 c = search needs
 
 returns-6 : tie.Need-returns-6
 unfolding valueBy widthOf
-returns-6 c = let a = c .before .before .before .before .before .before .before .args in
-    let b = c .before .before .before .be-i48 in
-    stored-as (a .shape) (a .kind) (a .at) (now (a .part)) (now (a .table)) (a .place) (c .before .before .before .before .before .match .keys6) (c .before .put-at6 .ensures .0)
-    (c .before .before .integer-of5 .ensures ∙ ap (integerOf (a .shape .i64)) (toZ-ofZ {w = w64} (record { sfits = b .ok }) ∙ b .ensures))
-    (c .before .put-at6 .ensures .1)
+returns-6 c = let a = c .before .before .before .before .before .before .args in
+    let b = c .before .before .be-i48 in
+    stored-as (a .shape) (a .kind) (a .at) (now (a .part)) (now (a .table)) (a .place) (c .before .before .before .before .match .keys6) (c .before .put-integer5 .ensures .0)
+    (ap (integerOf (a .shape .i64)) (toZ-ofZ {w = w64} (record { sfits = b .ok }) ∙ b .ensures))
+    (c .before .put-integer5 .ensures .1)
 
 same-length-7 : tie.Need-same-length-7
 same-length-7 c = search needs
 
 returns-7 : tie.Need-returns-7
 unfolding valueBy widthOf
-returns-7 c = let a = c .before .before .before .before .before .before .before .args in
-    let b = c .before .before .before .be-i64 in
-    stored-as (a .shape) (a .kind) (a .at) (now (a .part)) (now (a .table)) (a .place) (c .before .before .before .before .before .match .keys7) (c .before .put-at7 .ensures .0)
-    (c .before .before .integer-of6 .ensures ∙ ap (integerOf (a .shape .i64)) (toZ-ofZ {w = w64} (record { sfits = b .ok }) ∙ b .ensures))
-    (c .before .put-at7 .ensures .1)
+returns-7 c = let a = c .before .before .before .before .before .before .args in
+    let b = c .before .before .be-i64 in
+    stored-as (a .shape) (a .kind) (a .at) (now (a .part)) (now (a .table)) (a .place) (c .before .before .before .before .match .keys7) (c .before .put-integer6 .ensures .0)
+    (ap (integerOf (a .shape .i64)) (toZ-ofZ {w = w64} (record { sfits = b .ok }) ∙ b .ensures))
+    (c .before .put-integer6 .ensures .1)
 
 same-length-8 : tie.Need-same-length-8
 same-length-8 c = search needs
@@ -228,29 +204,29 @@ returns-8 : tie.Need-returns-8
 unfolding valueBy widthOf
 returns-8 c = let a = c .before .before .before .before .before .before .before .args in
     let b = c .before .before .before .be-u64 in
-    stored-as (a .shape) (a .kind) (a .at) (now (a .part)) (now (a .table)) (a .place) (c .before .before .before .before .before .match .keys8) (c .before .put-at8 .ensures .0)
+    stored-as (a .shape) (a .kind) (a .at) (now (a .part)) (now (a .table)) (a .place) (c .before .before .before .before .before .match .keys8) (c .before .put-at2 .ensures .0)
     (c .before .before .real-of .ensures ∙ ap realOf (b .ensures))
-    (c .before .put-at8 .ensures .1)
+    (c .before .put-at2 .ensures .1)
 
 same-length-9 : tie.Need-same-length-9
 same-length-9 c = search needs
 
 returns-9 : tie.Need-returns-9
 unfolding valueBy widthOf
-returns-9 c = let a = c .before .before .before .before .before .before .args in
-    stored-as (a .shape) (a .kind) (a .at) (now (a .part)) (now (a .table)) (a .place) (c .before .before .before .before .match .keys9) (c .before .put-at9 .ensures .0 ∙ sym (add-zero (a .at)))
-    (c .before .before .integer-of7 .ensures)
-    (c .before .put-at9 .ensures .1)
+returns-9 c = let a = c .before .before .before .before .before .args in
+    stored-as (a .shape) (a .kind) (a .at) (now (a .part)) (now (a .table)) (a .place) (c .before .before .before .match .keys9) (c .before .put-integer7 .ensures .0 ∙ sym (add-zero (a .at)))
+    (refl)
+    (c .before .put-integer7 .ensures .1)
 
 same-length-10 : tie.Need-same-length-10
 same-length-10 c = search needs
 
 returns-10 : tie.Need-returns-10
 unfolding valueBy widthOf
-returns-10 c = let a = c .before .before .before .before .before .before .before .args in
-    stored-as (a .shape) (a .kind) (a .at) (now (a .part)) (now (a .table)) (a .place) (c .before .before .before .before .before .match .keys10) (c .before .put-at10 .ensures .0 ∙ sym (add-zero (a .at)))
-    (c .before .before .integer-of8 .ensures ∙ ap (integerOf (a .shape .i8)) (toZ-ofZ {w = w64} {z = a .shape .one} (record { sfits = c .before .before .before .struct-told .given .1 .1 .1 .1 .0 .1 })))
-    (c .before .put-at10 .ensures .1)
+returns-10 c = let a = c .before .before .before .before .before .before .args in
+    stored-as (a .shape) (a .kind) (a .at) (now (a .part)) (now (a .table)) (a .place) (c .before .before .before .before .match .keys10) (c .before .put-integer8 .ensures .0 ∙ sym (add-zero (a .at)))
+    (ap (integerOf (a .shape .i8)) (toZ-ofZ {w = w64} {z = a .shape .one} (record { sfits = c .before .before .struct-told .given .1 .1 .1 .1 .0 .1 })))
+    (c .before .put-integer8 .ensures .1)
 
 same-length-11 : tie.Need-same-length-11
 same-length-11 c = search needs
@@ -269,41 +245,33 @@ put-value-spec =
     empty-value-requires
     put-at-requires
     be-i8-requires
-    cast-integer-of
-    integer-of-requires
-    add-put-at
-    put-at-requires-2
+    cast-put-integer
+    add-put-integer
+    put-integer-requires
     be-i16-requires
-    cast-integer-of-2
-    integer-of-requires-2
-    add-put-at-2
-    put-at-requires-3
+    cast-put-integer-2
+    add-put-integer-2
+    put-integer-requires-2
     be-i24-requires
-    cast-integer-of-3
-    integer-of-requires-3
-    add-put-at-3
-    put-at-requires-4
+    cast-put-integer-3
+    add-put-integer-3
+    put-integer-requires-3
     be-i32-requires
-    cast-integer-of-4
-    integer-of-requires-4
-    add-put-at-4
-    put-at-requires-5
+    cast-put-integer-4
+    add-put-integer-4
+    put-integer-requires-4
     be-i48-requires
-    integer-of-requires-5
-    add-put-at-5
-    put-at-requires-6
+    add-put-integer-5
+    put-integer-requires-5
     be-i64-requires
-    integer-of-requires-6
-    add-put-at-6
-    put-at-requires-7
+    add-put-integer-6
+    put-integer-requires-6
     be-u64-requires
     real-of-requires
-    add-put-at-7
-    put-at-requires-8
-    integer-of-requires-7
-    put-at-requires-9
-    integer-of-requires-8
-    put-at-requires-10
+    add-put-at
+    put-at-requires-2
+    put-integer-requires-7
+    put-integer-requires-8
     put-long-requires
     same-length
     returns
