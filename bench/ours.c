@@ -100,10 +100,10 @@ int main(int count, char **words) {
     reading r = named(words[1]);
     size_t length;
     uint8_t *db = load(words[2], &length);
-    shorgavel_header_answer h = shorgavel_header(db, length, r);
-    if (h.refused.number != 0) fail("the header is refused");
+    shorgavel_pages_answer pages = shorgavel_pages(db, length, r);
+    if (pages.refused.number != 0) fail("the header is refused");
     shown s = {0, 0, 0, 0};
-    for (int left = atoi(words[3]); left > 0; left--) s = pass_of(r, db, length, (uint32_t)(length / h.fields.page_size));
+    for (int left = atoi(words[3]); left > 0; left--) s = pass_of(r, db, length, (uint32_t)pages.count);
     print_shown(s);
     free(db);
     return 0;

@@ -18,7 +18,32 @@
 extern "C" {
 #endif
 
-/* Why nothing is shown; number 0: nothing is refused. Number 21 has the mark for which old and file need not agree. */
+/* Why nothing is shown; number 0: nothing is refused. The cell is told for 12 to 18 and 21, the column for 15 and 16, and for 21
+ * the mark, for which old and file need not agree.
+ *
+ *  1  the 16 opening bytes of a database are not there
+ *  2  there are fewer than 100 bytes
+ *  3  the text encoding is not 1, 2 or 3
+ *  4  the page size is not a power of two from 512 to 65,536
+ *  5  the usable size of a page is below 480
+ *  6  the read version is above 2
+ *  7  the payload fractions are not 64, 32, 32
+ *  8  the page is not wholly in the bytes
+ *  9  the page size is under 100
+ * 10  the page is of another kind, or of none
+ * 11  the page's header or pointers pass its end
+ * 12  the cell's pointer leads outside of the cells
+ * 13  the cell is cut short
+ * 14  the record's header does not fit
+ * 15  the type is 10 or 11, which are reserved
+ * 16  the value passes the end, or bytes are left over behind the last
+ * 17  the varint behind the index record has no end
+ * 18  the payload spills to overflow pages, which are not read
+ * 19  the lent table is shorter than the cell count
+ * 20  there is no such cell, or no such column in it
+ * 21  old and file need not agree
+ * 22  there are over 1,073,741,824 bytes
+ */
 typedef struct {
     uint8_t number;
     uint8_t mark;
@@ -62,6 +87,12 @@ typedef struct {
     shorgavel_fields fields;
 } shorgavel_header_answer;
 
+/* How many pages there are: as many as whole pages fit in the bytes. */
+typedef struct {
+    shorgavel_refused refused;
+    size_t count;
+} shorgavel_pages_answer;
+
 /* The head of a page. */
 typedef struct {
     uint8_t kind; /* the format's byte: 2, 5, 10 or 13 */
@@ -91,6 +122,9 @@ typedef struct {
 /* The header's fields, or the first check that fails. */
 shorgavel_header_answer shorgavel_header(const uint8_t *db, size_t length, uint8_t reading);
 
+/* The number of pages, behind the same checks. */
+shorgavel_pages_answer shorgavel_pages(const uint8_t *db, size_t length, uint8_t reading);
+
 /* The head of a page if every one of its cells is accepted, else the first refusal. */
 shorgavel_page_answer shorgavel_page(const uint8_t *db, size_t length, uint8_t reading, uint32_t page);
 
@@ -106,11 +140,14 @@ shorgavel_cell_entry shorgavel_entry(const uint8_t *db, size_t length, uint8_t r
 /* A PAGE THAT IS OPENED, for reading one cell of it after another by shorgavel_row_in, with no check of header and page made
  * again */
 
-/* It is handed back as it was answered, with the same database. */
+/* It is handed back as it was answered, with the same database. One that is made up is answered too: it is refused (8) where it
+ * does not lie in the database, and in the guarded reading (10) where it is no table leaf. Any other number than 2, 5 and 10 is
+ * taken for the kind of a table leaf. */
 typedef struct {
     uint8_t reading; /* the one in which it was opened */
     uint8_t kind;    /* the format's byte: 2, 5, 10 or 13 */
     uint32_t end;    /* where its cells end */
+    uint32_t number; /* the page's, as its reading counts */
     size_t at;       /* where the page lies in the database, and its size */
     size_t size;
     size_t from;     /* where its header stands in it */
@@ -127,7 +164,8 @@ shorgavel_opening shorgavel_open(const uint8_t *db, size_t length, uint8_t readi
 
 /* ONE CELL: it is checked by itself, whatever other cells are like. */
 
-/* A cursor along a row. It is handed back as it was answered, with the same database. */
+/* A cursor along a row. It is handed back as it was answered, with the same database. One that is made up is answered too, and
+ * shows no text and no blob outside the database. */
 typedef struct {
     size_t at;
     size_t stop;

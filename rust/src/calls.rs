@@ -52,6 +52,13 @@ pub struct HeaderAnswer {
     pub fields: Fields,
 }
 
+/// How many pages there are.
+#[repr(C)]
+pub struct PagesAnswer {
+    pub refused: Refused,
+    pub count: usize,
+}
+
 /// The head of a page.
 #[repr(C)]
 #[derive(Clone, Copy)]
@@ -90,6 +97,7 @@ pub struct Opened {
     pub reading: u8,
     pub kind: u8,
     pub end: u32,
+    pub number: u32,
     pub at: usize,
     pub size: usize,
     pub from: usize,
@@ -150,6 +158,7 @@ pub struct Shown {
 
 extern "C" {
     fn shorgavel_header(db: *const u8, length: usize, reading: u8) -> HeaderAnswer;
+    fn shorgavel_pages(db: *const u8, length: usize, reading: u8) -> PagesAnswer;
     fn shorgavel_page(db: *const u8, length: usize, reading: u8, page: u32) -> PageAnswer;
     fn shorgavel_entries(
         db: *const u8,
@@ -177,6 +186,12 @@ extern "C" {
 pub fn header(db: &[u8], reading: u8) -> HeaderAnswer {
     // SAFETY: pointer and length are of one slice, which outlives the call; any number names a reading.
     unsafe { shorgavel_header(db.as_ptr(), db.len(), reading) }
+}
+
+/// The number of pages, or the first check that fails.
+pub fn pages(db: &[u8], reading: u8) -> PagesAnswer {
+    // SAFETY: pointer and length are of one slice, which outlives the call; any number names a reading.
+    unsafe { shorgavel_pages(db.as_ptr(), db.len(), reading) }
 }
 
 /// The head of a page if every one of its cells is accepted.
@@ -247,11 +262,12 @@ mod tests {
         assert_eq!(size_of::<Refused>(), 24);
         assert_eq!(size_of::<Fields>(), 84);
         assert_eq!(size_of::<HeaderAnswer>(), 112);
+        assert_eq!(size_of::<PagesAnswer>(), 32);
         assert_eq!(size_of::<Head>(), 32);
         assert_eq!(size_of::<PageAnswer>(), 56);
         assert_eq!(size_of::<CellEntry>(), 48);
-        assert_eq!(size_of::<Opened>(), 40);
-        assert_eq!(size_of::<Opening>(), 64);
+        assert_eq!(size_of::<Opened>(), 48);
+        assert_eq!(size_of::<Opening>(), 72);
         assert_eq!(size_of::<Along>(), 32);
         assert_eq!(size_of::<Row>(), 80);
         assert_eq!(size_of::<Value>(), 40);
@@ -269,6 +285,7 @@ mod tests {
     #[test]
     fn no_bytes_are_answered() {
         assert_eq!(header(&[], 1).refused.number, 1);
+        assert_eq!(pages(&[], 0).refused.number, 1);
         assert_eq!(open(&[], 0, 0).refused.number, 1);
         assert_eq!(entries(&[], 1, 1, &mut []).refused.number, 1);
     }
@@ -329,6 +346,7 @@ mod tests {
                 reading,
                 kind: 13,
                 end: u32::MAX,
+                number: u32::MAX,
                 at: usize::MAX,
                 size: usize::MAX,
                 from: usize::MAX,

@@ -38,9 +38,10 @@ impl<'a> Gauge<'a> {
 
     /// The numbers of the pages, as the reading counts: as many as whole pages fit in the bytes.
     pub fn pages(&self, reading: Reading) -> Result<Range<u32>, Refusal> {
-        let size = self.header(reading)?.page_size as usize;
-        // The old reading takes a page size of 0 too. A gigabyte has no more pages than a u32 counts.
-        let count = self.bytes.0.len().checked_div(size).unwrap_or(0) as u32;
+        let answer = calls::pages(self.bytes.0, reading.number());
+        Refusal::check(&answer.refused)?;
+        // A gigabyte has no more pages than a u32 counts.
+        let count = answer.count as u32;
         let first = reading.first_page();
         Ok(first..first + count)
     }

@@ -7,7 +7,6 @@ use crate::{Cell, Cells, Entry, Head, Kind, Reading, Refusal};
 pub struct Page<'a> {
     bytes: Bytes<'a>,
     reading: Reading,
-    number: u32,
     opened: calls::Opened,
 }
 
@@ -15,12 +14,12 @@ impl<'a> Page<'a> {
     pub(crate) fn open(bytes: Bytes<'a>, reading: Reading, number: u32) -> Result<Page<'a>, Refusal> {
         let opening = calls::open(bytes.0, reading.number(), number);
         Refusal::check(&opening.refused)?;
-        Ok(Page { bytes, reading, number, opened: opening.opened })
+        Ok(Page { bytes, reading, opened: opening.opened })
     }
 
     /// The page's number, as its reading counts.
     pub fn number(&self) -> u32 {
-        self.number
+        self.opened.number
     }
 
     /// The reading in which it was opened.
@@ -58,7 +57,7 @@ impl<'a> Page<'a> {
     ///
     /// The guarded reading has no such call: of its pages the file reading's head is answered.
     pub fn head(&self) -> Result<Head, Refusal> {
-        let answer = calls::page(self.bytes.0, self.reading.number(), self.number);
+        let answer = calls::page(self.bytes.0, self.reading.number(), self.opened.number);
         Refusal::check(&answer.refused)?;
         Ok(Head::of(&answer.head))
     }
@@ -66,7 +65,7 @@ impl<'a> Page<'a> {
     /// The entries of all cells if every one is accepted, else the first refusal; of guarded pages, as for the head.
     pub fn entries(&self) -> Result<Vec<Entry>, Refusal> {
         let mut table = vec![calls::CellEntry::default(); self.len()];
-        let answer = calls::entries(self.bytes.0, self.reading.number(), self.number, &mut table);
+        let answer = calls::entries(self.bytes.0, self.reading.number(), self.opened.number, &mut table);
         Refusal::check(&answer.refused)?;
         Ok(table.iter().map(|entry| Entry::of(self.reading, entry)).collect())
     }

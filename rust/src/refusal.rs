@@ -15,30 +15,30 @@ pub struct Refusal {
     column: usize,
 }
 
-/// Name and meaning of each number, from 1 on.
-const REASONS: [(&str, &str); 22] = [
-    ("OpeningDiffers", "the 16 opening bytes of a database are not there"),
-    ("HeaderCut", "there are fewer than 100 bytes"),
-    ("EncodingUnknown", "the text encoding is not 1, 2 or 3"),
-    ("PageSizeUnfit", "the page size is not a power of two from 512 to 65,536"),
-    ("UsableTooSmall", "the usable size of a page is below 480"),
-    ("ReadVersionAbove", "the read version is above 2"),
-    ("FractionsDiffer", "the payload fractions are not 64, 32, 32"),
-    ("PageAbsent", "the page is not wholly in the bytes"),
-    ("RootTooSmall", "the page size is under 100"),
-    ("KindUnfit", "the page is of another kind, or of none"),
-    ("PointersPassEnd", "the page's header or pointers pass its end"),
-    ("PointerOutside", "the cell's pointer leads outside of the cells"),
-    ("CellCut", "the cell is cut short"),
-    ("HeaderUnfit", "the record's header does not fit"),
-    ("TypeReserved", "the type is 10 or 11, which are reserved"),
-    ("ValueUnfit", "the value passes the end, or bytes are left over behind the last"),
-    ("ClosingCut", "the varint behind the index record has no end"),
-    ("PayloadSpills", "the payload spills to overflow pages, which are not read"),
-    ("TableTooShort", "the lent table is shorter than the cell count"),
-    ("NoSuchCellOrColumn", "there is no such cell, or no such column in it"),
-    ("Marked", "old and file need not agree"),
-    ("OverLimit", "there are over 1,073,741,824 bytes"),
+/// Number, name and meaning of each refusal, a line each, in the order of the numbers.
+const REASONS: &[(usize, &str, &str)] = &[
+    (1, "OpeningDiffers", "the 16 opening bytes of a database are not there"),
+    (2, "HeaderCut", "there are fewer than 100 bytes"),
+    (3, "EncodingUnknown", "the text encoding is not 1, 2 or 3"),
+    (4, "PageSizeUnfit", "the page size is not a power of two from 512 to 65,536"),
+    (5, "UsableTooSmall", "the usable size of a page is below 480"),
+    (6, "ReadVersionAbove", "the read version is above 2"),
+    (7, "FractionsDiffer", "the payload fractions are not 64, 32, 32"),
+    (8, "PageAbsent", "the page is not wholly in the bytes"),
+    (9, "RootTooSmall", "the page size is under 100"),
+    (10, "KindUnfit", "the page is of another kind, or of none"),
+    (11, "PointersPassEnd", "the page's header or pointers pass its end"),
+    (12, "PointerOutside", "the cell's pointer leads outside of the cells"),
+    (13, "CellCut", "the cell is cut short"),
+    (14, "HeaderUnfit", "the record's header does not fit"),
+    (15, "TypeReserved", "the type is 10 or 11, which are reserved"),
+    (16, "ValueUnfit", "the value passes the end, or bytes are left over behind the last"),
+    (17, "ClosingCut", "the varint behind the index record has no end"),
+    (18, "PayloadSpills", "the payload spills to overflow pages, which are not read"),
+    (19, "TableTooShort", "the lent table is shorter than the cell count"),
+    (20, "NoSuchCellOrColumn", "there is no such cell, or no such column in it"),
+    (21, "Marked", "old and file need not agree"),
+    (22, "OverLimit", "there are over 1,073,741,824 bytes"),
 ];
 
 impl Refusal {
@@ -64,13 +64,14 @@ impl Refusal {
         Refusal { number: 22, mark: 0, cell: 0, column: 0 }
     }
 
-    /// The number, from 1 to 22.
+    /// The number, as the table of refusals in `docs/READINGS.md` has it.
     pub fn number(self) -> u8 {
         self.number as u8
     }
 
     fn reason(self) -> (&'static str, &'static str) {
-        REASONS.get(self.number.wrapping_sub(1)).copied().unwrap_or(("Unknown", "no meaning is known"))
+        let named = REASONS.iter().find(|(number, ..)| *number == self.number);
+        named.map_or(("Unknown", "no meaning is known"), |&(_, name, meaning)| (name, meaning))
     }
 
     /// The number's name.
@@ -127,7 +128,7 @@ mod tests {
     #[test]
     fn names_are_the_documented_ones() {
         let rows = include_str!("../../docs/READINGS.md").lines().filter_map(|line| line.strip_prefix("| "));
-        let mut seen = 0;
+        let mut documented = Vec::new();
         for row in rows {
             let mut fields = row.split(" | ");
             let (Some(Ok(number)), Some(name)) = (fields.next().map(str::parse), fields.next()) else {
@@ -137,8 +138,21 @@ mod tests {
             if number != 20 {
                 assert_eq!(format!("`{}`", refusal.name()), name);
             }
-            seen += 1;
+            documented.push(number);
         }
-        assert_eq!(seen, 23);
+        assert_eq!(documented.len(), REASONS.len() + 1);
+        documented.sort();
+        documented.dedup();
+        let told: Vec<usize> = REASONS.iter().map(|&(number, ..)| number).collect();
+        assert_eq!(told, documented);
+    }
+
+    /// The comment on refusals in the header for C has the same numbers and meanings.
+    #[test]
+    fn meanings_are_those_told_in_c() {
+        let header = include_str!("../../include/shorgavel.h");
+        for (number, _, meaning) in REASONS {
+            assert!(header.contains(&format!("\n * {number:2}  {meaning}\n")), "{number}");
+        }
     }
 }

@@ -87,6 +87,26 @@ static void header(void) {
     CHECK(refused(shorgavel_header(db, 0, SHORGAVEL_FILE).refused, 1, 0, 0, 0));
 }
 
+/* As many pages as are whole, and none with no bytes. */
+static void pages(void) {
+    uint8_t file[3 * sizeof db + 511] = {0};
+    memcpy(file, db, sizeof db);
+    for (uint8_t r = SHORGAVEL_OLD; r <= SHORGAVEL_GUARDED; r++) {
+        shorgavel_pages_answer p = shorgavel_pages(file, sizeof file, r);
+        CHECK(accepted(p.refused) && p.count == 3);
+        CHECK(shorgavel_pages(file, 3 * sizeof db, r).count == 3 && shorgavel_pages(file, 3 * sizeof db - 1, r).count == 2);
+        CHECK(shorgavel_pages(db, sizeof db, r).count == 1 && shorgavel_pages(db, sizeof db - 1, r).count == 0);
+        p = shorgavel_pages(db, 99, r);
+        CHECK(refused(p.refused, 2, 0, 0, 0) && p.count == 0);
+        CHECK(refused(shorgavel_pages(db, 0, r).refused, 1, 0, 0, 0));
+    }
+    file[16] = 0;
+    shorgavel_pages_answer p = shorgavel_pages(file, sizeof file, SHORGAVEL_OLD);
+    CHECK(accepted(p.refused) && p.count == 0);
+    p = shorgavel_pages(file, sizeof file, SHORGAVEL_FILE);
+    CHECK(refused(p.refused, 4, 0, 0, 0) && p.count == 0);
+}
+
 static void page(void) {
     shorgavel_page_answer p = shorgavel_page(db, sizeof db, SHORGAVEL_FILE, 1);
     CHECK(accepted(p.refused));
@@ -172,8 +192,8 @@ static void cells(void) {
 }
 
 static int opened(shorgavel_opened o, int reading) {
-    return o.reading == reading && o.kind == 13 && o.end == 512 && o.at == 0 && o.size == 512 && o.from == 100 &&
-           o.cells == 2;
+    return o.reading == reading && o.kind == 13 && o.end == 512 && o.number == (reading == SHORGAVEL_OLD ? 0 : 1) &&
+           o.at == 0 && o.size == 512 && o.from == 100 && o.cells == 2;
 }
 
 static shorgavel_opening open_page(uint8_t reading) {
@@ -338,8 +358,17 @@ static void refused_rows(void) {
         shorgavel_opened none = page;
         none.cells = SIZE_MAX;
         CHECK(row_refused(db, sizeof db, none, 0, 8, 0));
-        none = (shorgavel_opened){r, 255, UINT32_MAX, SIZE_MAX, SIZE_MAX, SIZE_MAX, SIZE_MAX};
+        none = (shorgavel_opened){r, 255, UINT32_MAX, UINT32_MAX, SIZE_MAX, SIZE_MAX, SIZE_MAX, SIZE_MAX};
         CHECK(row_refused(db, sizeof db, none, 0, 8, 0));
+    }
+
+    /* A page that no call opened: guarded shows the cells of table leaves alone. */
+    for (size_t i = 0; i < sizeof others; i++) {
+        shorgavel_opened other = open_page(SHORGAVEL_FILE).opened;
+        other.reading = SHORGAVEL_GUARDED;
+        CHECK(!row_refused(db, sizeof db, other, 1, 10, 0));
+        other.kind = others[i];
+        CHECK(row_refused(db, sizeof db, other, 1, 10, 0) && row_refused(db, 0, other, 1, 10, 0));
     }
 }
 
@@ -350,6 +379,35 @@ static uint8_t lot(void) {
     state = state * 1664525 + 1013904223;
     uint8_t byte = (uint8_t)(state >> 24);
     return (state >> 16) % 3 == 0 ? telling[byte % sizeof telling] : byte;
+}
+
+/* What a cursor that no call answered shows of 30 bytes: no text and no blob outside them. */
+static size_t shown_inside(values_call *fill, const uint8_t bytes[30]) {
+    shorgavel_value table[PLACES];
+    shorgavel_along all = {0, 2147483647, 0, (size_t)1 << 63};
+    shorgavel_filled f = fill(bytes, 30, all, table, SHORGAVEL_WORDS(PLACES));
+    for (size_t i = 0; i < f.count; i++) {
+        int has_bytes = table[i].kind == SHORGAVEL_TEXT || table[i].kind == SHORGAVEL_BLOB;
+        CHECK(!has_bytes || (table[i].at <= 30 && table[i].len <= 30 - table[i].at));
+    }
+    return f.count;
+}
+
+static void made_up_cursors(void) {
+    values_call *fills[] = {shorgavel_old_values, shorgavel_file_values};
+    for (size_t r = 0; r < 2; r++) {
+        /* A blob of 30 bytes is all there is, a text of 31 passes the end, and so does one of a billion bytes. */
+        uint8_t bytes[30] = {72, 10};
+        CHECK(shown_inside(fills[r], bytes) == 1);
+        bytes[0] = 75;
+        CHECK(shown_inside(fills[r], bytes) == 0);
+        memcpy(bytes, "\x87\xff\xff\xff\x7f", 5);
+        CHECK(shown_inside(fills[r], bytes) == 0);
+        for (int copy = 0; copy < 4000; copy++) {
+            for (size_t i = 0; i < sizeof bytes; i++) bytes[i] = lot();
+            shown_inside(fills[r], bytes);
+        }
+    }
 }
 
 /* Damaged copies of the page, in its header and pointers, its cells and the record with every kind of value. */
@@ -429,6 +487,7 @@ static void reserved(void) {
 int main(void) {
     write_database();
     header();
+    pages();
     page();
     entries();
     cells();
@@ -439,6 +498,7 @@ int main(void) {
     write_kinds();
     kinds();
     damaged_rows();
+    made_up_cursors();
     reserved();
     puts(failed ? "failed" : "every call answers as expected");
     return failed;

@@ -1,8 +1,10 @@
--- The numbers of each refusal: number, cell, column and mark, 0 where none applies. The table is that of docs/READINGS.md,
--- row by row.
+-- The numbers of each refusal: number, cell, column and mark, 0 where none applies. The table is that of docs/READINGS.md, a
+-- clause for each row.
 use Prim.Native.Nat.{ℕ}
 use Rattle.answers.specs.declared.Refusal.{Refusal}
-use Rattle.answers.specs.declared.Refusal.the-variants.{Plain, InCell}
+use Rattle.answers.specs.declared.Refusal.the-variants.{OfDatabase, OnPage, InCell}
+use Rattle.answers.specs.declared.Flaw.{Flaw}
+use Rattle.answers.specs.declared.Flaw.the-variants as fl
 use Rattle.answers.specs.declared.Reason.{Reason}
 use Rattle.answers.specs.declared.Reason.the-variants as re
 use Rattle.answers.specs.declared.Fault.{Fault}
@@ -11,60 +13,46 @@ use Rattle.answers.specs.declared.Mark.{Mark}
 use Rattle.answers.specs.declared.Mark.the-variants as ma
 use Rattle.answers.specs.declared.Numbers.{Numbers}
 
-abbrev pub ofReason : Reason → ℕ
-ofReason re.OverLimit = 22
-ofReason re.OpeningDiffers = 1
-ofReason re.HeaderCut = 2
-ofReason re.EncodingUnknown = 3
-ofReason re.PageSizeUnfit = 4
-ofReason re.UsableTooSmall = 5
-ofReason re.ReadVersionAbove = 6
-ofReason re.FractionsDiffer = 7
-ofReason re.PageAbsent = 8
-ofReason re.RootTooSmall = 9
-ofReason re.KindUnfit = 10
-ofReason re.PointersPassEnd = 11
-ofReason re.TableTooShort = 19
-ofReason re.NoSuchCell = 20
-ofReason re.NoSuchColumn = 20
+abbrev pub row : ℕ → ℕ → ℕ → ℕ → Numbers
+row number cell column mark = record { number = number; cell = cell; column = column; mark = mark }
 
-abbrev pub ofFault : Fault → ℕ
-ofFault fa.PointerOutside = 12
-ofFault fa.CellCut = 13
-ofFault fa.PayloadSpills = 18
-ofFault fa.HeaderUnfit = 14
-ofFault (fa.TypeReserved column) = 15
-ofFault (fa.ValueUnfit column) = 16
-ofFault fa.ClosingCut = 17
-ofFault (fa.Marked mark) = 21
+abbrev pub flawNumber : Flaw → ℕ
+flawNumber fl.OverLimit = 22
+flawNumber fl.OpeningDiffers = 1
+flawNumber fl.HeaderCut = 2
+flawNumber fl.EncodingUnknown = 3
+flawNumber fl.PageSizeUnfit = 4
+flawNumber fl.UsableTooSmall = 5
+flawNumber fl.ReadVersionAbove = 6
+flawNumber fl.FractionsDiffer = 7
 
-abbrev pub columnOf : Fault → ℕ
-columnOf fa.PointerOutside = 0
-columnOf fa.CellCut = 0
-columnOf fa.PayloadSpills = 0
-columnOf fa.HeaderUnfit = 0
-columnOf (fa.TypeReserved column) = column
-columnOf (fa.ValueUnfit column) = column
-columnOf fa.ClosingCut = 0
-columnOf (fa.Marked mark) = 0
+abbrev pub reasonNumber : Reason → ℕ
+reasonNumber re.PageAbsent = 8
+reasonNumber re.RootTooSmall = 9
+reasonNumber re.KindUnfit = 10
+reasonNumber re.PointersPassEnd = 11
+reasonNumber re.TableTooShort = 19
+reasonNumber re.NoSuchCell = 20
+reasonNumber re.NoSuchColumn = 20
 
-abbrev pub ofMark : Mark → ℕ
-ofMark ma.LongVarint = 1
-ofMark ma.WideHeaderSize = 2
-ofMark ma.StoredOne = 3
-ofMark ma.EmptyValue = 4
+abbrev pub markNumber : Mark → ℕ
+markNumber ma.LongVarint = 1
+markNumber ma.WideHeaderSize = 2
+markNumber ma.StoredOne = 3
+markNumber ma.EmptyValue = 4
 
-abbrev pub markOf : Fault → ℕ
-markOf fa.PointerOutside = 0
-markOf fa.CellCut = 0
-markOf fa.PayloadSpills = 0
-markOf fa.HeaderUnfit = 0
-markOf (fa.TypeReserved column) = 0
-markOf (fa.ValueUnfit column) = 0
-markOf fa.ClosingCut = 0
-markOf (fa.Marked mark) = ofMark mark
+-- in a cell
+abbrev pub faultRow : ℕ → Fault → Numbers
+faultRow cell fa.PointerOutside = row 12 cell 0 0
+faultRow cell fa.CellCut = row 13 cell 0 0
+faultRow cell fa.PayloadSpills = row 18 cell 0 0
+faultRow cell fa.HeaderUnfit = row 14 cell 0 0
+faultRow cell (fa.TypeReserved column) = row 15 cell column 0
+faultRow cell (fa.ValueUnfit column) = row 16 cell column 0
+faultRow cell fa.ClosingCut = row 17 cell 0 0
+faultRow cell (fa.Marked mark) = row 21 cell 0 (markNumber mark)
 
 abbrev pub numbersOf : Refusal → Numbers
-numbersOf (Plain reason) = record { number = ofReason reason; cell = 0; column = 0; mark = 0 }
-numbersOf (InCell cell fault) =
-    record { number = ofFault fault; cell = cell; column = columnOf fault; mark = markOf fault }
+numbersOf (OfDatabase flaw) = row (flawNumber flaw) 0 0 0
+numbersOf (OnPage page reason) = row (reasonNumber reason) 0 0 0
+numbersOf (InCell page cell fault) = faultRow cell fault

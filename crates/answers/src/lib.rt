@@ -1,17 +1,27 @@
 // What calls answer where they show nothing: refusals, named by their meaning, with the numbers that a caller is given.
 //
-// A refusal knows its place. What lies below a cell answers a `Fault`, which knows its column and not its cell; the call
-// that was asked for a cell puts the two together. docs/READINGS.md has the table of numbers.
+// A refusal knows its place. A `Flaw` is of the database as a whole, a `Reason` is told of a page, and what lies below a cell
+// answers a `Fault`, which knows its column and neither cell nor page; the opened page, which knows its number, puts them
+// together. docs/READINGS.md has the table of numbers.
 ghost use mathlib.Core.Path.{_≡_};
-ghost use Rattle.answers.specs.Numbers.{ofReason, ofFault, columnOf, markOf, ofMark, numbersOf};
+ghost use Rattle.answers.specs.Numbers.{row, markNumber, flawNumber, reasonNumber, faultRow, numbersOf};
 
+// Pages are counted as the call that is refused counts them.
 pub enum Refusal {
-    Plain(Reason),
-    InCell { cell: usize, fault: Fault },
+    OfDatabase(Flaw),
+    OnPage {
+        page: u32,
+        reason: Reason,
+    },
+    InCell {
+        page: u32,
+        cell: usize,
+        fault: Fault,
+    },
 }
 
-// Why a call is refused before it comes to a cell, or because what it asks for is not there.
-pub enum Reason {
+// Why nothing of a database is read.
+pub enum Flaw {
     OverLimit,
     OpeningDiffers,
     HeaderCut,
@@ -20,6 +30,10 @@ pub enum Reason {
     UsableTooSmall,
     ReadVersionAbove,
     FractionsDiffer,
+}
+
+// Why a call is refused on a page, before it comes to a cell, or because what it asks for is not there.
+pub enum Reason {
     PageAbsent,
     RootTooSmall,
     KindUnfit,
@@ -32,7 +46,7 @@ pub enum Reason {
 // What a run of checks comes to.
 pub enum Checked {
     Passed,
-    Failed(Reason),
+    Failed(Flaw),
 }
 
 // What is wrong with a cell.
@@ -72,33 +86,47 @@ pub fn numbers_of(refusal: Refusal) -> Numbers
     ensures { λ r. ⌜ r ≡ numbersOf refusal ⌝ }
 {
     match refusal {
-        Refusal::Plain(reason) => Numbers {
-            number: reason_number(reason),
-            cell: 0,
-            column: 0,
-            mark: 0,
-        },
-        Refusal::InCell { cell, fault } => Numbers {
-            number: fault_number(fault),
+        Refusal::OfDatabase(flaw) => row_of(flaw_number(flaw), 0, 0, 0),
+        Refusal::OnPage { page: _, reason } => row_of(reason_number(reason), 0, 0, 0),
+        Refusal::InCell {
+            page: _,
             cell,
-            column: fault_column(fault),
-            mark: fault_mark(fault),
-        },
+            fault,
+        } => fault_row(cell, fault),
+    }
+}
+
+// A row of the table.
+fn row_of(number: u8, cell: usize, column: usize, mark: u8) -> Numbers
+    ensures { λ r. ⌜ r ≡ row number cell column mark ⌝ }
+{
+    Numbers {
+        number,
+        cell,
+        column,
+        mark,
+    }
+}
+
+fn flaw_number(flaw: Flaw) -> u8
+    ensures { λ r. ⌜ r ≡ flawNumber flaw ⌝ }
+{
+    match flaw {
+        Flaw::OverLimit => 22,
+        Flaw::OpeningDiffers => 1,
+        Flaw::HeaderCut => 2,
+        Flaw::EncodingUnknown => 3,
+        Flaw::PageSizeUnfit => 4,
+        Flaw::UsableTooSmall => 5,
+        Flaw::ReadVersionAbove => 6,
+        Flaw::FractionsDiffer => 7,
     }
 }
 
 fn reason_number(reason: Reason) -> u8
-    ensures { λ r. ⌜ r ≡ ofReason reason ⌝ }
+    ensures { λ r. ⌜ r ≡ reasonNumber reason ⌝ }
 {
     match reason {
-        Reason::OverLimit => 22,
-        Reason::OpeningDiffers => 1,
-        Reason::HeaderCut => 2,
-        Reason::EncodingUnknown => 3,
-        Reason::PageSizeUnfit => 4,
-        Reason::UsableTooSmall => 5,
-        Reason::ReadVersionAbove => 6,
-        Reason::FractionsDiffer => 7,
         Reason::PageAbsent => 8,
         Reason::RootTooSmall => 9,
         Reason::KindUnfit => 10,
@@ -109,53 +137,23 @@ fn reason_number(reason: Reason) -> u8
     }
 }
 
-fn fault_number(fault: Fault) -> u8
-    ensures { λ r. ⌜ r ≡ ofFault fault ⌝ }
+fn fault_row(cell: usize, fault: Fault) -> Numbers
+    ensures { λ r. ⌜ r ≡ faultRow cell fault ⌝ }
 {
     match fault {
-        Fault::PointerOutside => 12,
-        Fault::CellCut => 13,
-        Fault::PayloadSpills => 18,
-        Fault::HeaderUnfit => 14,
-        Fault::TypeReserved { column: _ } => 15,
-        Fault::ValueUnfit { column: _ } => 16,
-        Fault::ClosingCut => 17,
-        Fault::Marked(_) => 21,
-    }
-}
-
-fn fault_column(fault: Fault) -> usize
-    ensures { λ r. ⌜ r ≡ columnOf fault ⌝ }
-{
-    match fault {
-        Fault::PointerOutside => 0,
-        Fault::CellCut => 0,
-        Fault::PayloadSpills => 0,
-        Fault::HeaderUnfit => 0,
-        Fault::TypeReserved { column } => column,
-        Fault::ValueUnfit { column } => column,
-        Fault::ClosingCut => 0,
-        Fault::Marked(_) => 0,
-    }
-}
-
-fn fault_mark(fault: Fault) -> u8
-    ensures { λ r. ⌜ r ≡ markOf fault ⌝ }
-{
-    match fault {
-        Fault::PointerOutside => 0,
-        Fault::CellCut => 0,
-        Fault::PayloadSpills => 0,
-        Fault::HeaderUnfit => 0,
-        Fault::TypeReserved { column: _ } => 0,
-        Fault::ValueUnfit { column: _ } => 0,
-        Fault::ClosingCut => 0,
-        Fault::Marked(mark) => mark_number(mark),
+        Fault::PointerOutside => row_of(12, cell, 0, 0),
+        Fault::CellCut => row_of(13, cell, 0, 0),
+        Fault::PayloadSpills => row_of(18, cell, 0, 0),
+        Fault::HeaderUnfit => row_of(14, cell, 0, 0),
+        Fault::TypeReserved { column } => row_of(15, cell, column, 0),
+        Fault::ValueUnfit { column } => row_of(16, cell, column, 0),
+        Fault::ClosingCut => row_of(17, cell, 0, 0),
+        Fault::Marked(mark) => row_of(21, cell, 0, mark_number(mark)),
     }
 }
 
 fn mark_number(mark: Mark) -> u8
-    ensures { λ r. ⌜ r ≡ ofMark mark ⌝ }
+    ensures { λ r. ⌜ r ≡ markNumber mark ⌝ }
 {
     match mark {
         Mark::LongVarint => 1,

@@ -1,32 +1,36 @@
--- How the stages of a cell lie in its bytes, and how the code's cell is the definition's.
-use Prim.Native.Nat.{ℕ, _≤_, _<_}
+-- The numbers of a cell, one by one, and that they and the payload lie in the cell's bytes.
+use Prim.Native.Nat.{ℕ, _+_, _≤_, _<_}
 use mathlib.Core.Path.{_≡_, refl}
 use mathlib.Core.List.{List}
 use mathlib.Core.Bool.{Bool, true, false}
 use native.Mathlib.Omega.{arith}
 use lib.Dec.{ltb}
-use lib.ListN.{length, drop}
-use borrow.Author.Tests.{lt-ltb, le-ltb, ltb-false}
+use lib.ListN.{length, drop, length-drop}
+use borrow.Author.Tests.{lt-ltb, le-ltb, ltb-true, ltb-false}
 use Rattle.laws.specs.Pick.{pick}
-use Rattle.fields.specs.Fields.{unsigned}
+use Rattle.laws.proofs.Never.{never}
+use Rattle.varint.specs.declared.Number.{Number}
 use Rattle.varint.specs.declared.Varint.{Varint}
 use Rattle.varint.specs.declared.Varint.the-variants as vi
-use Rattle.varint.specs.Varint.{varintOf}
+use Rattle.varint.specs.declared.Cause.{Cause}
 use Rattle.varint.proofs.Laws.{length-bounds}
 use Rattle.reading.specs.declared.Reading.{Reading}
 use Rattle.reading.specs.declared.Reading.the-variants.{Old as old, File as file}
+use Rattle.reading.specs.Reading.{limit}
+use Rattle.answers.specs.declared.Fault.{Fault}
 use Rattle.answers.specs.declared.Fault.the-variants as fa
-use Rattle.record.specs.Types.{Num, Types, count}
+use Rattle.answers.specs.Answer.{Answer, refused, shown}
 use Rattle.cell.specs.declared.Kind.{Kind}
+use Rattle.cell.specs.declared.Numbers.{Numbers}
 use Rattle.cell.specs.declared.Payload.the-variants as pa
-use Rattle.cell.specs.declared.Cell as dc
-use Rattle.cell.specs.Kind.{interior}
-use Rattle.cell.specs.Cell.{faulty, payloadIn, numberIn, childed, cellBy, cellOf, closed, closedBy, closedAnswer, closingBy, numberOf, answerOf}
+use Rattle.cell.specs.Kind.{hasSize, hasRow, childBytes}
+use Rattle.cell.specs.Numbers.{none, numberIn, childAt, numbersOf}
+use Rattle.cell.specs.Cell.{payloadIn}
 
 -- a number lies in the bytes
-pub number-within : (has : Bool) (limit : ℕ) (s : List ℕ) {x m : ℕ} → numberIn has limit s ≡ vi.Value x m → m ≤ length s
+pub number-within : (has : Bool) (limit : ℕ) (s : List ℕ) {n : Number} → numberIn has limit none s ≡ vi.Value n → n .length ≤ length s
 number-within true limit s e = length-bounds s limit e .2
-number-within false limit s {x} {m} e = let z : 0 ≡ m = cc in omega arith
+number-within false limit s {n} e = let z : none ≡ n = cc in rw (← z) (omega arith)
 
 -- and so does a payload
 pub payload-within : (r : Reading) (x p : ℕ) (s : List ℕ) {n : ℕ} → payloadIn r x p s ≡ pa.Whole n → n ≤ length s
@@ -35,40 +39,81 @@ payload-within file x p s {n} e = go (ltb x p) (ltb (length s) p) refl e
   where
     go : (a b : Bool) → ltb (length s) p ≡ b
         → pick a (pa.Faulty fa.PayloadSpills) (pick b (pa.Faulty fa.CellCut) (pa.Whole p)) ≡ pa.Whole n → n ≤ length s
-    go true b q d = let z : _≡_ {A = ℕ} 0 1 = cc in absurd (omega arith)
-    go false true q d = let z : _≡_ {A = ℕ} 0 1 = cc in absurd (omega arith)
+    go true b q d = never cc
+    go false true q d = never cc
     go false false q d = let z : p ≡ n = cc in let l = ltb-false (length s) p q in omega arith
 
--- the closing varint, in the definition and in the code
-abbrev shown : ℕ → Num → Num → Num → ℕ → dc.Cell
-shown child size row header n =
-    record { child = child; size = numberOf size; row = numberOf row; header = numberOf header; columns = n }
+-- THE NUMBERS, one behind the other
 
-pub closed-answer : (closing : Bool) (child : ℕ) (size row header : Num) (ts : Types) (n : ℕ) (s : List ℕ) → count ts ≡ n
-    → closedAnswer closing (shown child size row header n) s ≡ answerOf (closed closing child size row header ts s)
-closed-answer false child size row header ts n s e = rw (← e)
-closed-answer true child size row header ts n s e = rw (← e) (go (varintOf 5 s))
-  where
-    go : (v : Varint) → closingBy (shown child size row header (count ts)) v ≡ answerOf (closedBy child size header ts v)
-    go (vi.Unfinished c) = refl
-    go (vi.Value x m) = refl
+module _ (r : Reading) (k : Kind) (s : List ℕ) where
+  abbrev pub sizeIn : Varint
+  sizeIn = numberIn (hasSize k) (limit r) none (drop (childBytes k) s)
 
--- THE CHILD, before the rest of an interior cell
+  abbrev pub keyBehind : Number → Varint
+  keyBehind size = numberIn (hasRow k) (limit r) none (drop (childBytes k + size .length) s)
 
-module _ (r : Reading) (k : Kind) (u : ℕ) (s : List ℕ) where
-  pub child-cut : length s < pick (interior k) 4 0 → cellOf r k u s ≡ faulty fa.CellCut
-  unfolding cellOf
-  child-cut = go (interior k)
+  pub child-cut : length s < childBytes k → numbersOf r k s ≡ refused fa.CellCut
+  unfolding numbersOf
+  child-cut h = rw (lt-ltb (length s) (childBytes k) h)
+
+  module _ (h : childBytes k ≤ length s) where
+    pub size-cut : {c : Cause} → sizeIn ≡ vi.Unfinished c → numbersOf r k s ≡ refused fa.CellCut
+    unfolding numbersOf
+    size-cut e = rw (le-ltb (length s) (childBytes k) h, e)
+
+    module _ {size : Number} (e : sizeIn ≡ vi.Value size) where
+      pub key-cut : {c : Cause} → keyBehind size ≡ vi.Unfinished c → numbersOf r k s ≡ refused fa.CellCut
+      unfolding numbersOf
+      key-cut d = rw (le-ltb (length s) (childBytes k) h, e, d)
+
+      pub numbers-read : {key : Number} → keyBehind size ≡ vi.Value key
+          → numbersOf r k s ≡ shown (record { child = childAt k s; size = size; key = key; length = childBytes k + size .length + key .length })
+      unfolding numbersOf
+      numbers-read d = rw (le-ltb (length s) (childBytes k) h, e, d)
+
+      -- each ends in the bytes
+      pub size-ends : childBytes k + size .length ≤ length s
+      size-ends = let l = rw length-drop at (number-within (hasSize k) (limit r) (drop (childBytes k) s) e) in omega arith
+
+      pub key-ends : {key : Number} → keyBehind size ≡ vi.Value key → childBytes k + size .length + key .length ≤ length s
+      key-ends d =
+          let l = rw length-drop at (number-within (hasRow k) (limit r) (drop (childBytes k + size .length) s) d) in
+          let z = size-ends in omega arith
+
+-- numbers that were read, taken apart
+pub record Numbered (r : Reading) (k : Kind) (s : List ℕ) (n : Numbers) : Type 0 where
+  pub child : childBytes k ≤ length s
+  pub size : sizeIn r k s ≡ vi.Value (n .size)
+  pub key : keyBehind r k s (n .size) ≡ vi.Value (n .key)
+  pub is : record { child = childAt k s; size = n .size; key = n .key; length = childBytes k + n .size .length + n .key .length } ≡ n
+  pub within : n .length ≤ length s
+
+-- they are read, or refused in one way
+pub data Told (r : Reading) (k : Kind) (s : List ℕ) : Answer Fault Numbers → Type 0 where
+  cut : Told r k s (refused fa.CellCut)
+  read : {n : Numbers} → Numbered r k s n → Told r k s (shown n)
+
+module _ (r : Reading) (k : Kind) (s : List ℕ) where
+  pub numbers-told : Told r k s (numbersOf r k s)
+  numbers-told = by-child (ltb (length s) (childBytes k)) refl
     where
-      go : (b : Bool) → length s < pick b 4 0 → cellBy b r k u s ≡ faulty fa.CellCut
-      go true h = rw (lt-ltb (length s) 4 h)
-      go false h = absurd (omega arith)
+      by-key : (l : childBytes k ≤ length s) {size : Number} (e : sizeIn r k s ≡ vi.Value size) (v : Varint) → keyBehind r k s size ≡ v
+          → Told r k s (numbersOf r k s)
+      by-key l e (vi.Unfinished c) d = rw (key-cut r k s l e d) cut
+      by-key l e (vi.Value key) d =
+          rw (numbers-read r k s l e d) (read (record { child = l; size = e; key = d; is = refl; within = key-ends r k s l e d }))
 
-  pub child-taken : pick (interior k) 4 0 ≤ length s
-      → cellOf r k u s ≡ childed r k u (pick (interior k) (unsigned 4 s) 0) (drop (pick (interior k) 4 0) s)
-  unfolding cellOf
-  child-taken = go (interior k)
+      by-size : childBytes k ≤ length s → (v : Varint) → sizeIn r k s ≡ v → Told r k s (numbersOf r k s)
+      by-size l (vi.Unfinished c) e = rw (size-cut r k s l e) cut
+      by-size l (vi.Value size) e = by-key l e (keyBehind r k s size) refl
+
+      by-child : (b : Bool) → ltb (length s) (childBytes k) ≡ b → Told r k s (numbersOf r k s)
+      by-child true t = rw (child-cut r k s (ltb-true (length s) (childBytes k) t)) cut
+      by-child false t = by-size (ltb-false (length s) (childBytes k) t) (sizeIn r k s) refl
+
+  pub numbered : {n : Numbers} → numbersOf r k s ≡ shown n → Numbered r k s n
+  numbered {n} e = go (numbersOf r k s) numbers-told e
     where
-      go : (b : Bool) → pick b 4 0 ≤ length s → cellBy b r k u s ≡ childed r k u (pick b (unsigned 4 s) 0) (drop (pick b 4 0) s)
-      go true h = rw (le-ltb (length s) 4 h)
-      go false h = refl
+      go : (x : Answer Fault Numbers) → Told r k s x → x ≡ shown n → Numbered r k s n
+      go x cut d = never cc
+      go x (read {n = m} t) d = let i : m ≡ n = cc in rw (← i) t

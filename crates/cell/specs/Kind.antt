@@ -7,6 +7,9 @@
 --   13 leaf table                    x                  x            x
 use Prim.Native.Nat.{ℕ, _-_, _*_, _/_}
 use mathlib.Core.Bool.{Bool, true, false}
+use Rattle.laws.specs.Pick.{pick}
+use Rattle.reading.specs.declared.Reading.{Reading}
+use Rattle.reading.specs.declared.Reading.the-variants.{Old as old, File as file}
 use Rattle.cell.specs.declared.Kind.{Kind}
 use Rattle.cell.specs.declared.Kind.the-variants.{InteriorIndex, InteriorTable, LeafIndex, LeafTable}
 
@@ -33,6 +36,18 @@ hasRow InteriorIndex = false
 hasRow InteriorTable = true
 hasRow LeafIndex = false
 hasRow LeafTable = true
+
+-- whether a record is followed by one more varint, which the Rust keeps as an index cell's row number
+abbrev pub hasClosing : Reading → Kind → Bool
+hasClosing old InteriorIndex = true
+hasClosing old InteriorTable = false
+hasClosing old LeafIndex = true
+hasClosing old LeafTable = false
+hasClosing file k = false
+
+-- how many bytes a child takes
+abbrev pub childBytes : Kind → ℕ
+childBytes k = pick (interior k) 4 0
 
 -- X: the largest payload that lies whole on a page of u usable bytes. File format, 1.6: "If the page type is a table leaf
 -- page then X is U-35. If the page is an index page then X is ((U-12)*64/255)-23."

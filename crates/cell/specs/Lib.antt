@@ -1,3 +1,3 @@
 pub mod Kind
+pub mod Numbers
 pub mod Cell
-pub mod Layout

@@ -1,3 +1,4 @@
 pub mod Laws
 pub mod Extents
 pub mod Along
+pub mod Opened

@@ -1,14 +1,15 @@
 // Along the columns of a record: a cursor, by value, that gives one column's type and place after another.
 //
-// A cursor says where the next type and its value stand in the caller's bytes. One that is opened on a checked cell
-// (`row::cursor`) comes to each of its columns; any other is answered too, and no step reads outside the bytes. From the
+// A cursor says where the next type and its value stand in the bytes that it is handed. One that is opened on a checked cell
+// comes to each of its columns; any other is answered too, and no step reads or shows what lies outside the bytes. From the
 // file format, 2.1 "Record Format", and the Rust's `column_values`.
 ghost use mathlib.Core.Path.{_≡_};
-ghost use Prim.Native.Nat.{_+_, _-_, _≤_};
+ghost use Prim.Native.Nat.{_+_, _-_, _≤_, min};
 ghost use lib.ListN.{take, drop};
-ghost use Rattle.columns.specs.Columns.{passed, stepOf, slotOf};
+ghost use Rattle.columns.specs.Columns.{endIn, passed, stepOf, slotOf};
 use reading::Reading;
 use serial::Width;
+use varint::Number;
 use varint::Varint;
 
 pub struct Cursor {
@@ -23,13 +24,17 @@ pub struct Cursor {
 
 pub enum Stepped {
     // The column's serial type, where its value stands, and the cursor behind it.
-    Column { kind: u64, at: usize, next: Cursor },
+    Column {
+        serial: u64,
+        at: usize,
+        next: Cursor,
+    },
     Done,
 }
 
 pub enum Slot {
     // The column's serial type, and where its value stands.
-    Found { kind: u64, at: usize },
+    Found { serial: u64, at: usize },
     Missing,
 }
 
@@ -49,70 +54,88 @@ fn between(s: &[u8], at: usize, stop: usize) -> &[u8]
     &s[at..stop]
 }
 
-// How many bytes the values have left.
-fn room(cursor: Cursor) -> usize
-    ensures { λ r. ⌜ r ≡ cursor .end - cursor .value ⌝ }
+fn smaller(a: usize, b: usize) -> usize
+    ensures { λ r. ⌜ r ≡ min a b ⌝ }
 {
-    if cursor.end < cursor.value {
+    if a < b { a } else { b }
+}
+
+// How far it is from `at` to the end, if that is not passed.
+fn bytes_left(end: usize, at: usize) -> usize
+    ensures { λ r. ⌜ r ≡ end - at ⌝ }
+{
+    if end < at {
         return 0;
     }
-    cursor.end - cursor.value
+    end - at
 }
 
-// Past a column whose type took `length` bytes, if its value of `width` bytes ends in time.
-fn pass(cursor: Cursor, kind: u64, length: usize, width: u64) -> Stepped
-    requires { ⌜ cursor .at + length ≤ cursor .stop ⌝ }
-    ensures { λ r. ⌜ r ≡ passed cursor kind length width ⌝ }
-{
-    if (room(cursor) as u64) < width {
-        return Stepped::Done;
+impl Cursor {
+    // How many bytes the values have left: none that is past the end of the bytes.
+    fn room(self, s: &[u8]) -> usize
+        ensures { λ r. ⌜ r ≡ endIn self (now (s .entry)) - self .value ⌝ }
+    {
+        smaller(
+            bytes_left(self.end, self.value),
+            bytes_left(s.len(), self.value),
+        )
     }
-    let reading = cursor.reading;
-    Stepped::Column {
-        kind,
-        at: cursor.value,
-        next: Cursor {
-            reading,
-            at: cursor.at + length,
-            stop: cursor.stop,
-            value: cursor.value + width as usize,
-            end: cursor.end,
-        },
-    }
-}
 
-// The column at the cursor, and the cursor behind it.
-pub fn step(db: &[u8], cursor: Cursor) -> Stepped
-    ensures { λ r. ⌜ r ≡ stepOf cursor (now (db .entry)) ⌝ }
-{
-    let reading = cursor.reading;
-    let types = between(db, cursor.at, cursor.stop);
-    let found = varint::read(types, reading::limit_of(reading));
-    let Varint::Value { value, length } = found else {
-        return Stepped::Done;
-    };
-    let size = serial::width_of(value);
-    let Width::Bytes(width) = size else {
-        return Stepped::Done;
-    };
-    pass(cursor, value, length, width)
-}
-
-// Column `k`, counted from the cursor.
-pub fn find(db: &[u8], cursor: Cursor, k: usize) -> Slot
-    ensures { λ r. ⌜ r ≡ slotOf k cursor (now (db .entry)) ⌝ }
-{
-    let mut here = cursor;
-    let mut left = k;
-    loop {
-        let reached = step(db, here);
-        let Stepped::Column { kind, at, next } = reached else {
-            return Slot::Missing;
-        };
-        if left == 0 {
-            return Slot::Found { kind, at };
+    // Past a column of type `serial`, if its value of `width` bytes ends in time.
+    fn pass(self, s: &[u8], serial: Number, width: u64) -> Stepped
+        requires { ⌜ self .at + serial .length ≤ self .stop ⌝ }
+        ensures { λ r. ⌜ r ≡ passed (endIn self (now (s .entry))) self serial width ⌝ }
+    {
+        if (self.room(s) as u64) < width {
+            return Stepped::Done;
         }
-        here = next;
-        left -= 1;
+        let reading = self.reading;
+        Stepped::Column {
+            serial: serial.value,
+            at: self.value,
+            next: Cursor {
+                reading,
+                at: self.at + serial.length,
+                stop: self.stop,
+                value: self.value + width as usize,
+                end: self.end,
+            },
+        }
+    }
+
+    // The column at the cursor, and the cursor behind it.
+    pub fn step(self, s: &[u8]) -> Stepped
+        ensures { λ r. ⌜ r ≡ stepOf self (now (s .entry)) ⌝ }
+    {
+        let reading = self.reading;
+        let types = between(s, self.at, self.stop);
+        let found = varint::read(types, reading::limit_of(reading));
+        let Varint::Value(serial) = found else {
+            return Stepped::Done;
+        };
+        let size = serial::width_of(serial.value);
+        let Width::Bytes(width) = size else {
+            return Stepped::Done;
+        };
+        self.pass(s, serial, width)
+    }
+
+    // Column `k`, counted from the cursor.
+    pub fn find(self, s: &[u8], k: usize) -> Slot
+        ensures { λ r. ⌜ r ≡ slotOf k self (now (s .entry)) ⌝ }
+    {
+        let mut here = self;
+        let mut left = k;
+        loop {
+            let reached = here.step(s);
+            let Stepped::Column { serial, at, next } = reached else {
+                return Slot::Missing;
+            };
+            if left == 0 {
+                return Slot::Found { serial, at };
+            }
+            here = next;
+            left -= 1;
+        }
     }
 }

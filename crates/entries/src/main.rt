@@ -2,32 +2,33 @@
 // three places of the table hold behind each call. Places that a call does not fill keep what stood there, which prints
 // as an entry of kind 255.
 use libc::STDIN_FILENO;
-use page::PageAnswer;
+use place::Page;
+use table::PageAnswer;
 
 fn main() {
     let mut buffer = io::large_buffer();
     let n = io::read_full(STDIN_FILENO, &mut buffer);
     let db = &buffer[..n];
     print::text(b"old page 0\n");
-    show_page(db, page::old(0));
+    show_page(db, place::old(0));
     print::text(b"old page 1\n");
-    show_page(db, page::old(1));
+    show_page(db, place::old(1));
     print::text(b"file page 0\n");
-    show_page(db, page::file(0));
+    show_page(db, place::file(0));
     print::text(b"file page 1\n");
-    show_page(db, page::file(1));
+    show_page(db, place::file(1));
 }
 
 // The answer, and the first three places of the table.
-fn show_page(db: &[u8], key: usize) {
-    show_answer(db, key);
-    show_place(db, key, 0);
-    show_place(db, key, 1);
-    show_place(db, key, 2);
+fn show_page(db: &[u8], asked: Page) {
+    show_answer(db, asked);
+    show_place(db, asked, 0);
+    show_place(db, asked, 1);
+    show_place(db, asked, 2);
 }
 
-fn show_answer(db: &[u8], key: usize) {
-    let probed = lent::probe(db, key, 0);
+fn show_answer(db: &[u8], asked: Page) {
+    let probed = lent::probe(db, asked, 0);
     let answer = probed.answer;
     match answer {
         PageAnswer::Shown(head) => {
@@ -49,8 +50,8 @@ fn show_answer(db: &[u8], key: usize) {
 }
 
 // Place `i`: kind, pointer, child, payload size, row number, header size, columns.
-fn show_place(db: &[u8], key: usize, i: usize) {
-    let probed = lent::probe(db, key, i);
+fn show_place(db: &[u8], asked: Page, i: usize) {
+    let probed = lent::probe(db, asked, i);
     let entry = probed.entry;
     print::text(b"  ");
     print::number(entry.kind as u64);

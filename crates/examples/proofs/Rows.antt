@@ -8,15 +8,18 @@ use Rattle.values.specs.File as fv
 use Rattle.values.specs.Part.{partOf}
 use Rattle.record.specs.Types.{types, walk}
 use Rattle.record.specs.Record.{fitted, recordOf}
-use Rattle.cell.specs.Cell.{cellOf}
-use Rattle.columns.specs.Columns.{slotIn, slotOf}
+use Rattle.cell.specs.Numbers.{numbersOf}
+use Rattle.cell.specs.Cell.{behind, cellOf}
+use Rattle.columns.specs.Columns.{slotIn}
 use Rattle.marks.specs.Marks.{lowest}
-use Rattle.header.specs.Header.{fieldOf, pageSize, usable, checkedOf, shapeOf}
-use Rattle.page.specs.Place.{placeOf}
+use Rattle.header.specs.Header.{fieldOf, pageSize, usable, checkedOf, sizesOf}
+use Rattle.place.specs.Place.{placeOf}
+use Rattle.place.specs.Shape.{shapeOf}
 use Rattle.page.specs.Open as po
-use Rattle.page.specs.Entry.{cellIn}
-use Rattle.page.specs.Located as pl
+use Rattle.cells.specs.Pointers.{cellAt}
+use Rattle.cells.specs.Located as ce
 use Rattle.row.specs.Row as ro
+use Rattle.row.specs.Column as rc
 use Rattle.row.specs.Old as rold
 use Rattle.row.specs.File as rfile
 use Rattle.guarded.specs.Guarded as gu
@@ -24,5 +27,5 @@ use Rattle.guarded.specs.Shows.{oldShows, fileShows, guardedShows}
 use Rattle.examples.specs.Rows.{databaseOf, seenOf, Worked}
 
 pub worked : Worked
-unfolding seenOf databaseOf oldShows fileShows guardedShows ro.countOf ro.rowOf ro.cursorOf ro.columnOf rold.shownOf rfile.shownOf gu.openOf gu.locatedOf gu.countOf gu.rowOf gu.cursorOf gu.shownOf pl.locatedOf cellIn po.openOf po.kindIn placeOf shapeOf checkedOf usable pageSize fieldOf lowest slotOf slotIn cellOf recordOf fitted walk types partOf fv.valueOf ov.valueOf widthOf be twos scan
+unfolding seenOf databaseOf oldShows fileShows guardedShows ro.countOf ro.rowOf rc.columnOf rold.shownOf rfile.shownOf gu.openOf gu.locatedIn gu.locatedOf gu.countOf gu.rowOf gu.shownOf ce.locatedOf ce.locatedIn cellAt po.siteOf po.openFrom po.openOf placeOf shapeOf sizesOf checkedOf usable pageSize fieldOf lowest slotIn cellOf behind numbersOf recordOf fitted walk types partOf fv.valueOf ov.valueOf widthOf be twos scan
 worked = refl

@@ -7,15 +7,14 @@ use lib.IntN.{ℤ, pos, negsuc}
 use Rattle.varint.specs.declared.Varint.{Varint}
 use Rattle.varint.specs.declared.Varint.the-variants.{Value, Unfinished}
 use Rattle.varint.specs.declared.Cause.the-variants.{WithoutEnd}
-use Rattle.varint.specs.Varint.{varintOf}
-use Rattle.answers.specs.declared.Refusal.{Refusal}
+use Rattle.varint.specs.Varint.{number, varintOf}
 use Rattle.answers.specs.declared.Refusal.the-variants.{InCell}
 use Rattle.answers.specs.declared.Fault.{Fault}
 use Rattle.answers.specs.declared.Fault.the-variants as fa
 use Rattle.answers.specs.declared.Mark.the-variants as ma
 use Rattle.header.specs.Header.{opening}
-use Rattle.page.specs.Entry.{rowNumber}
-use Rattle.guarded.specs.Shows.{Meaning, null, integer, text, Row, none, row, oldShows, fileShows, guardedShows}
+use Rattle.cells.specs.Located.{rowNumber}
+use Rattle.guarded.specs.Shows.{null, integer, text, Row, none, row, oldShows, fileShows, guardedShows}
 
 -- the bytes of a varint, or a payload and what stands behind it on its page
 pub data Given : Type 0 where
@@ -24,7 +23,7 @@ pub data Given : Type 0 where
 
 -- a varint in old and in file, and the row number that it is in file; or a row in old, file and guarded
 pub data Seen : Type 0 where
-  number : Varint → Varint → ℤ → Seen
+  numbers : Varint → Varint → ℤ → Seen
   rows : Row → Row → Row → Seen
 
 -- A DATABASE OF ONE PAGE, of 512 bytes, that ends in one cell: the payload as row 1, and what stands behind it
@@ -41,11 +40,11 @@ unfoldable pub databaseOf : List ℕ → List ℕ → List ℕ
 databaseOf p z = headOf (startOf p z) ++ replicate (startOf p z - 110) 0 ++ (length p ∷ 1 ∷ p) ++ z
 
 abbrev pub rowNumberOf : Varint → ℤ
-rowNumberOf (Value v n) = rowNumber v
+rowNumberOf (Value n) = rowNumber (n .value)
 rowNumberOf (Unfinished cause) = pos 0
 
 unfoldable pub seenOf : Given → Seen
-seenOf (varint s) = number (varintOf 5 s) (varintOf 9 s) (rowNumberOf (varintOf 9 s))
+seenOf (varint s) = numbers (varintOf 5 s) (varintOf 9 s) (rowNumberOf (varintOf 9 s))
 seenOf (payload p z) =
     rows (oldShows 0 0 (databaseOf p z)) (fileShows 1 0 (databaseOf p z)) (guardedShows 1 0 (databaseOf p z))
 
@@ -61,32 +60,42 @@ given (g ⟹ s) = g
 abbrev pub seen : Line → Seen
 seen (g ⟹ s) = s
 
--- row 1 with one integer or more, and the refusals of cell 0
+abbrev pub value : ℕ → ℕ → Varint
+value v length = Value (number v length)
+
+-- row 1 with one integer or more, and the refusals of cell 0: the page is 0 in old, 1 in file and guarded
 abbrev pub ints : List ℤ → Row
 ints ns = row (pos 1) (map integer ns)
 
+abbrev pub in-old : Fault → Row
+in-old fault = none (InCell 0 0 fault)
+
+abbrev pub in-file : Fault → Row
+in-file fault = none (InCell 1 0 fault)
+
+-- the three readings alike
 abbrev pub all : Row → Seen
 all r = rows r r r
 
-abbrev pub in-cell : Fault → Row
-in-cell fault = none (InCell 0 fault)
+abbrev pub refusals : Fault → Seen
+refusals fault = rows (in-old fault) (in-file fault) (in-file fault)
 
 abbrev pub table : List Line
 table =
-    (varint (0x81 ∷ 0x00 ∷ []) ⟹ number (Value 128 2) (Value 128 2) (pos 128))
-    ∷ (varint (0xff ∷ 0xff ∷ 0xff ∷ 0xff ∷ 0x7f ∷ []) ⟹ number (Value 34359738367 5) (Value 34359738367 5) (pos 34359738367))
-    ∷ (varint (0x81 ∷ 0x80 ∷ 0x80 ∷ 0x80 ∷ 0x80 ∷ 0x00 ∷ []) ⟹ number (Unfinished WithoutEnd) (Value 34359738368 6) (pos 34359738368))
-    ∷ (varint (replicate 9 0xff) ⟹ number (Unfinished WithoutEnd) (Value 18446744073709551615 9) (negsuc 0))
-    ∷ (payload (3 ∷ 9 ∷ 4 ∷ 1 ∷ 0 ∷ 0 ∷ 0 ∷ []) [] ⟹ rows (ints (pos 0 ∷ pos 16777216 ∷ [])) (ints (pos 1 ∷ pos 16777216 ∷ [])) (in-cell (fa.Marked ma.StoredOne)))
+    (varint (0x81 ∷ 0x00 ∷ []) ⟹ numbers (value 128 2) (value 128 2) (pos 128))
+    ∷ (varint (0xff ∷ 0xff ∷ 0xff ∷ 0xff ∷ 0x7f ∷ []) ⟹ numbers (value 34359738367 5) (value 34359738367 5) (pos 34359738367))
+    ∷ (varint (0x81 ∷ 0x80 ∷ 0x80 ∷ 0x80 ∷ 0x80 ∷ 0x00 ∷ []) ⟹ numbers (Unfinished WithoutEnd) (value 34359738368 6) (pos 34359738368))
+    ∷ (varint (replicate 9 0xff) ⟹ numbers (Unfinished WithoutEnd) (value 18446744073709551615 9) (negsuc 0))
+    ∷ (payload (3 ∷ 9 ∷ 4 ∷ 1 ∷ 0 ∷ 0 ∷ 0 ∷ []) [] ⟹ rows (ints (pos 0 ∷ pos 16777216 ∷ [])) (ints (pos 1 ∷ pos 16777216 ∷ [])) (in-file (fa.Marked ma.StoredOne)))
     ∷ (payload (3 ∷ 8 ∷ 4 ∷ 1 ∷ 0 ∷ 0 ∷ 0 ∷ []) [] ⟹ all (ints (pos 0 ∷ pos 16777216 ∷ [])))
-    ∷ (payload (2 ∷ 13 ∷ []) [] ⟹ rows (row (pos 1) (null ∷ [])) (row (pos 1) (text [] ∷ [])) (in-cell (fa.Marked ma.EmptyValue)))
-    ∷ (payload (2 ∷ 10 ∷ []) [] ⟹ all (in-cell (fa.TypeReserved 0)))
+    ∷ (payload (2 ∷ 13 ∷ []) [] ⟹ rows (row (pos 1) (null ∷ [])) (row (pos 1) (text [] ∷ [])) (in-file (fa.Marked ma.EmptyValue)))
+    ∷ (payload (2 ∷ 10 ∷ []) [] ⟹ refusals (fa.TypeReserved 0))
     ∷ (payload (2 ∷ 3 ∷ 0x80 ∷ 0 ∷ 0 ∷ []) [] ⟹ all (ints (negsuc 8388607 ∷ [])))
     ∷ (payload (2 ∷ 5 ∷ 0xff ∷ 0xff ∷ 0xff ∷ 0xff ∷ 0xff ∷ 0xfe ∷ []) [] ⟹ all (ints (negsuc 1 ∷ [])))
-    ∷ (payload (0x80 ∷ 3 ∷ 1 ∷ 5 ∷ []) [] ⟹ rows (in-cell (fa.ValueUnfit 0)) (ints (pos 5 ∷ [])) (in-cell (fa.Marked ma.WideHeaderSize)))
+    ∷ (payload (0x80 ∷ 3 ∷ 1 ∷ 5 ∷ []) [] ⟹ rows (in-old (fa.ValueUnfit 0)) (ints (pos 5 ∷ [])) (in-file (fa.Marked ma.WideHeaderSize)))
     -- a header size in two bytes that does no harm: a byte that ends no type stands behind the record
-    ∷ (payload (0x80 ∷ 3 ∷ 8 ∷ []) (0xff ∷ []) ⟹ rows (ints (pos 0 ∷ [])) (ints (pos 0 ∷ [])) (in-cell (fa.Marked ma.WideHeaderSize)))
-    ∷ (payload (3 ∷ 1 ∷ 0x81 ∷ 5 ∷ []) [] ⟹ rows (ints (pos 5 ∷ [])) (in-cell fa.HeaderUnfit) (in-cell fa.HeaderUnfit))
+    ∷ (payload (0x80 ∷ 3 ∷ 8 ∷ []) (0xff ∷ []) ⟹ rows (ints (pos 0 ∷ [])) (ints (pos 0 ∷ [])) (in-file (fa.Marked ma.WideHeaderSize)))
+    ∷ (payload (3 ∷ 1 ∷ 0x81 ∷ 5 ∷ []) [] ⟹ rows (ints (pos 5 ∷ [])) (in-file fa.HeaderUnfit) (in-file fa.HeaderUnfit))
     ∷ []
 
 abbrev pub Worked : Type 0

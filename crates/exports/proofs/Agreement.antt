@@ -13,51 +13,49 @@ use Rattle.laws.specs.Pick.{pick}
 use Rattle.laws.proofs.Never.{never}
 use Rattle.reading.specs.declared.Reading.{Reading}
 use Rattle.reading.specs.declared.Reading.the-variants.{Old as old, File as file}
-use Rattle.cell.specs.declared.Cell as dc
+use Rattle.answers.specs.declared.Refusal.{Refusal}
+use Rattle.answers.specs.Answer.{Answer, refused, shown}
 use Rattle.columns.specs.declared.Cursor.{Cursor}
 use Rattle.columns.specs.declared.Stepped.{Stepped}
 use Rattle.columns.specs.declared.Stepped.the-variants.{Column, Done}
 use Rattle.columns.specs.declared.Slot.the-variants.{Found}
-use Rattle.columns.specs.Columns.{typesAt, slotOf, behind, stepOf}
+use Rattle.columns.specs.Columns.{slotOf, behind, stepOf}
 use Rattle.columns.proofs.Laws.{slot-done, slot-here, slot-next, stepped}
-use Rattle.columns.proofs.Extents.{past-found}
+use Rattle.place.specs.declared.Page.{Page}
+use Rattle.place.specs.Place.{oldPage, filePage}
 use Rattle.page.specs.declared.Open.{Open}
-use Rattle.page.specs.declared.Located.{Located}
-use Rattle.page.specs.declared.Located.the-variants as lo
-use Rattle.page.specs.Place.{oldKey, fileKey, readingIn}
 use Rattle.page.specs.Open as page
-use Rattle.page.specs.Located.{locatedOf}
-use Rattle.page.proofs.Laws.{old-reading, file-reading}
-use Rattle.page.proofs.Named.{open-reading}
-use Rattle.page.proofs.Found.{found}
-use Rattle.page.proofs.Again.{cells-again}
+use Rattle.page.specs.Open.{openAnswer}
+use Rattle.page.proofs.Sites.{open-page}
+use Rattle.cells.specs.Located.{Located, locatedIn}
+use Rattle.cells.proofs.Laws.{held, located-open}
 use Rattle.row.specs.declared.FoundAnswer.{FoundAnswer}
 use Rattle.row.specs.declared.FoundAnswer.the-variants as fo
-use Rattle.row.specs.declared.CursorAnswer.the-variants as cu
 use Rattle.row.specs.declared.ColumnAnswer.{ColumnAnswer}
 use Rattle.row.specs.declared.ColumnAnswer.the-variants as cl
-use Rattle.row.specs.Row as plain
-use Rattle.row.specs.Row.{foundBy, foundOf, cursorIn, cursorBy, cursorOf, columnBy, columnOf}
+use Rattle.row.specs.Found.{cursorIn, foundBy}
+use Rattle.row.specs.Column.{slotThen, columnBy, columnOf}
 use Rattle.row.specs.Old as old-calls
 use Rattle.row.specs.File as file-calls
+use Rattle.row.proofs.Placed.{placed-in, column-along}
 use Rattle.guarded.specs.Guarded as guarded
-use Rattle.guarded.proofs.Guard as guard
-use Rattle.guarded.proofs.Guard.{leaf-opened}
-use Rattle.guarded.proofs.Stages.{found-again}
+use Rattle.guarded.proofs.Guard.{leaf-opened, guarded-in, guarded-open}
 use Rattle.usual.specs.declared.RowAnswer.the-variants as ra
 use Rattle.usual.specs.Usual as usual
 use Rattle.exports.specs.declared.types.Opened.{Opened}
 use Rattle.exports.specs.declared.types.Value.{Value}
 use Rattle.exports.specs.declared.types.Shown.{Shown}
-use Rattle.exports.specs.Turns.{accepted, readingOf, openingBy, openOf, cellBy, rowOf}
-use Rattle.exports.specs.Values.{oldShown, fileShown}
-use Rattle.exports.specs.Batch.{Run, run, before, wordsOf, valueAt, runFrom, filledBy, over}
+use Rattle.exports.specs.Refusals.{accepted}
+use Rattle.exports.specs.Pages.{readingOf, openingBy, openOf}
+use Rattle.exports.specs.Rows.{cellBy, rowOf}
+use Rattle.exports.specs.Shown.{oldShown, fileShown}
+use Rattle.exports.specs.Run.{Run, run, before, wordsOf, valueAt, runFrom, filledBy, over}
 use Rattle.exports.specs.Calls.{openingOf, rowIn}
-use Rattle.exports.specs.Agreement.{cellOf, shownOf, cellFrom, CellsAgree, RowShows, AsManyAsFit}
+use Rattle.exports.specs.Agreement.{cellIn, shownOf, cellFrom, CellsAgree, RowShows, AsManyAsFit}
 use Rattle.exports.proofs.Filling.{run-done, run-full, run-more}
-use Rattle.exports.proofs.Checked.{Left, at-first, Next, next, none-left}
-use Rattle.exports.proofs.Rows.{found-whole}
-use Rattle.exports.proofs.Pages.{open-back, page-behind}
+use Rattle.exports.proofs.Checked.{Left, at-first, Next, next, none-left, whole-found}
+use Rattle.exports.proofs.Found.{found-whole}
+use Rattle.exports.proofs.Back.{Behind, page-behind}
 
 -- PLACES
 
@@ -119,73 +117,82 @@ shown-value file db t at = refl
 
 -- what the calls of a reading answer of cell i of a page, and what is found of it where the page was opened
 record Located-by (reading number i : ℕ) (db : List ℕ) (o : Opened) : Type 0 where
-  x : Located
-  r : Reading
+  x : Answer Refusal Located
   row : rowIn o i db ≡ usual.rowBy (foundBy x)
-  cell : cellOf reading number i db ≡ cellBy (foundBy x)
-  shows : (k : ℕ) → shownOf reading number i k db ≡ shownIn r db (columnBy k db (cursorBy x))
-  reads : (y : Open) (p : ℕ) (c : dc.Cell) → x ≡ lo.Shown y p c → y .reading ≡ r
+  cell : cellIn reading number i db ≡ cellBy (foundBy x)
+  shows : (k : ℕ) → shownOf reading number i k db ≡ shownIn (readingOf (o .reading)) db (columnBy k x)
+  lies : (l : Located) → x ≡ shown l → locatedIn (openOf o) i db ≡ shown l
 
--- in the old and the file reading
-module _ (key i : ℕ) (db : List ℕ) where
-  row-again : (n : ℕ) (o : Opened) → eqb n 2 ≡ false → readingOf n ≡ readingIn key → openingBy n (page.openOf key db) ≡ record { refused = accepted; opened = o }
-      → rowIn o i db ≡ usual.rowBy (foundBy (locatedOf key i db))
-  unfolding usual.rowIn plain.foundIn
-  row-again n o plainly names e =
-      let b = page-behind n (page.openOf key db) o e in
-      let back = open-back n (b .shown) (names ∙ sym (open-reading key db (b .shown) (b .is))) in
-      rw (b .turned, plainly, back) (ap (λ (y : Located). usual.rowBy (foundBy y)) (cells-again key i db (b .shown) (b .is)))
+module _ (i : ℕ) (db : List ℕ) (o : Opened) where
+  -- a page that is handed back is that of the old or the file reading
+  again : (asked : Page) (n : ℕ) → readingOf n ≡ asked .reading
+      → openingBy n (openAnswer (page.openOf asked db)) ≡ record { refused = accepted; opened = o } → Behind n (page.openOf asked db) o
+  again asked n names e = page-behind n (page.openOf asked db) o (λ p d. ap (λ (q : Page). q .reading) (open-page asked db d) ∙ sym names) e
 
-  key-reads : {y : Open} {p : ℕ} {c : dc.Cell} → locatedOf key i db ≡ lo.Shown y p c → y .reading ≡ readingIn key
-  key-reads {y} e = open-reading key db y (found key i db e .opened)
+  -- or that of the guarded one
+  again-guarded : (number : ℕ) → openingBy 2 (openAnswer (guarded.openOf number db)) ≡ record { refused = accepted; opened = o }
+      → Behind 2 (guarded.openOf number db) o
+  again-guarded number e =
+      page-behind 2 (guarded.openOf number db) o (λ p d. ap (λ (q : Page). q .reading) (open-page (filePage number) db (leaf-opened number db d .0))) e
 
--- in the guarded reading
-guarded-again : (number i : ℕ) (db : List ℕ) (o : Opened) → openingBy 2 (guarded.openOf number db) ≡ record { refused = accepted; opened = o }
-    → rowIn o i db ≡ usual.rowBy (foundBy (guarded.locatedOf number i db))
-unfolding usual.rowIn
-guarded-again number i db o e =
-    let b = page-behind 2 (guarded.openOf number db) o e in
-    let l = leaf-opened number db (b .shown) (b .is) .0 in
-    let back = open-back 2 (b .shown) (sym (open-reading (fileKey number) db (b .shown) l ∙ file-reading number)) in
-    rw (b .turned, back) (ap usual.rowBy (found-again number i db (b .shown) (b .is)))
+  -- its cell, and the cell's columns
+  row-plain : {n : ℕ} → o .reading ≡ n → eqb n 2 ≡ false → rowIn o i db ≡ usual.rowBy (foundBy (locatedIn (openOf o) i db))
+  unfolding usual.rowIn
+  row-plain r f = ap (λ (g : Bool). usual.rowIn g (openOf o) i db) (ap (λ (m : ℕ). eqb m 2) r ∙ f)
+
+  row-guarded : o .reading ≡ 2 → rowIn o i db ≡ usual.rowBy (foundBy (guarded.locatedIn (openOf o) i db))
+  unfolding usual.rowIn
+  row-guarded r = ap (λ (m : ℕ). usual.rowIn (eqb m 2) (openOf o) i db) r
+
+  column-of : (k n : ℕ) (r : Reading) {x y : Answer Refusal Located} → x ≡ y → o .reading ≡ n → readingOf n ≡ r
+      → shownIn r db (columnBy k x) ≡ shownIn (readingOf (o .reading)) db (columnBy k y)
+  column-of k n r {y = y} e f g =
+      ap (λ (z : Answer Refusal Located). shownIn r db (columnBy k z)) e
+      ∙ ap (λ (q : Reading). shownIn q db (columnBy k y)) (sym (ap readingOf f ∙ g))
 
 located-by : (reading number i : ℕ) (db : List ℕ) (o : Opened) → openingOf reading number db ≡ record { refused = accepted; opened = o }
     → Located-by reading number i db o
-unfolding foundOf cursorOf columnOf old-calls.shownOf file-calls.shownOf guarded.shownOf guarded.cursorOf
+unfolding columnOf old-calls.shownOf file-calls.shownOf guarded.shownOf
 located-by reading number i db o e = go (eqb reading 0) (eqb reading 2) refl refl
   where
     go : (a b : Bool) → eqb reading 0 ≡ a → eqb reading 2 ≡ b → Located-by reading number i db o
     go true true f g = absurd (omega (arith, eqb-true reading 0 f, eqb-true reading 2 g))
-    go true false f g = record {
-      x = locatedOf (oldKey number) i db;
-      r = old;
-      row = row-again (oldKey number) i db 0 o refl (sym (old-reading number)) (rw (f, g) at e);
-      cell = rw f;
-      shows = λ k. rw f;
-      reads = λ y p c d. key-reads (oldKey number) i db d ∙ old-reading number;
-    }
-    go false true f g = record {
-      x = guarded.locatedOf number i db;
-      r = file;
-      row = guarded-again number i db o (rw (eqb-true reading 2 g) at e);
-      cell = rw (f, g);
-      shows = λ k. rw (f, g);
-      reads = λ y p c d. key-reads (fileKey number) i db (guard.guarded number i db d .located) ∙ file-reading number;
-    }
-    go false false f g = record {
-      x = locatedOf (fileKey number) i db;
-      r = file;
-      row = row-again (fileKey number) i db 1 o refl (sym (file-reading number)) (rw (f, g) at e);
-      cell = rw (f, g);
-      shows = λ k. rw (f, g);
-      reads = λ y p c d. key-reads (fileKey number) i db d ∙ file-reading number;
-    }
+    go true false f g =
+        let b = again i db o (oldPage number) 0 refl (rw (f, g) at e) in
+        let s = located-open (oldPage number) i db (b .is) in
+        record {
+          x = locatedIn (openOf o) i db;
+          row = row-plain i db o (b .reading) refl;
+          cell = rw f (ap (λ (y : Answer Refusal Located). cellBy (foundBy y)) s);
+          shows = λ k. rw f (column-of i db o k 0 old s (b .reading) refl);
+          lies = λ l d. d;
+        }
+    go false true f g =
+        let b = again-guarded i db o number (rw (eqb-true reading 2 g) at e) in
+        let s = guarded-open number i db (b .is) in
+        record {
+          x = guarded.locatedIn (openOf o) i db;
+          row = row-guarded i db o (b .reading);
+          cell = rw (f, g) (ap (λ (y : Answer Refusal Located). cellBy (foundBy y)) s);
+          shows = λ k. rw (f, g) (column-of i db o k 2 file s (b .reading) refl);
+          lies = λ l d. guarded-in (openOf o) i db d .located;
+        }
+    go false false f g =
+        let b = again i db o (filePage number) 1 refl (rw (f, g) at e) in
+        let s = located-open (filePage number) i db (b .is) in
+        record {
+          x = locatedIn (openOf o) i db;
+          row = row-plain i db o (b .reading) refl;
+          cell = rw (f, g) (ap (λ (y : Answer Refusal Located). cellBy (foundBy y)) s);
+          shows = λ k. rw (f, g) (column-of i db o k 1 file s (b .reading) refl);
+          lies = λ l d. d;
+        }
 
 -- THE CELL
 
 cell-from : (answer : FoundAnswer) → cellBy answer ≡ cellFrom (usual.rowBy answer)
 cell-from (fo.Refused refusal) = refl
-cell-from (fo.Shown kind c cursor) = refl
+cell-from (fo.Shown f) = refl
 
 pub cells-agree : CellsAgree
 cells-agree reading number i db o e =
@@ -194,24 +201,30 @@ cells-agree reading number i db o e =
 
 -- ITS VALUES
 
--- the cursor of a located cell, of its page's reading
-cursor-is : (x : Located) (r : Reading) {n columns : ℕ} {c : Cursor} → usual.rowBy (foundBy x) ≡ ra.Shown n columns c
-    → ((y : Open) (p : ℕ) (cell : dc.Cell) → x ≡ lo.Shown y p cell → y .reading ≡ r) → (cursorBy x ≡ cu.Shown c) × (c .reading ≡ r)
-cursor-is (lo.Refused refusal) r e reads = never cc
-cursor-is (lo.Shown y p cell) r {c = c} e reads =
-    let q : cursorIn y p cell ≡ c = cc in
-    (ap cu.Shown q, rw (← q) (reads y p cell refl))
+-- a column that its cursor finds is the one that is asked for, in the page's reading
+along-cursor : (o : Open) (i k : ℕ) (db : List ℕ) (x : Answer Refusal Located) {n columns : ℕ} {c : Cursor} {t at : ℕ}
+    → usual.rowBy (foundBy x) ≡ ra.Shown n columns c → ((l : Located) → x ≡ shown l → locatedIn o i db ≡ shown l) → slotOf k c db ≡ Found t at
+    → (columnBy k x ≡ cl.Shown t at) × (c .reading ≡ o .page .reading)
+along-cursor o i k db (refused refusal) e lies f = never cc
+along-cursor o i k db (shown l) {c = c} e lies f =
+    let q : cursorIn l ≡ c = cc in
+    let h = lies l refl in
+    let named : l .opened ≡ o = held o i db h .opened in (
+      sym (column-along k l db (placed-in o i db h))
+          ∙ ap (λ (y : Cursor). slotThen (l .opened .page) (slotOf k y db)) q
+          ∙ ap (slotThen (l .opened .page)) f,
+      ap (λ (y : Cursor). y .reading) (sym q) ∙ ap (λ (y : Open). y .page .reading) named,
+    )
 
 pub row-shows : RowShows
-unfolding slotOf
 row-shows reading number i places db table o n columns c e d k l room =
     let b = located-by reading number i db o e in
-    let s = cursor-is (b .x) (b .r) (sym (b .row) ∙ d) (b .reads) in
-    let w = found-whole (openOf o) i db (eqb (o .reading) 2) d in
-    let h = past-found k 0 (c .value) (c .end) (typesAt c db) (w .past) (rw (w .columns) l) in
-    let v : shownOf reading number i k db ≡ record { refused = accepted; value = valueAt (b .r) (h .t) (h .at) db } =
-    b .shows k ∙ rw (s .0, h .is) (shown-value (b .r) db (h .t) (h .at)) in
-    rw (v, d, over-run (runFrom places c db) table, ← s .1) (refl, place-holds k places c db (drop (length (wordsIn (runFrom places c db))) table) room (h .is))
+    let h = whole-found c columns db (found-whole (openOf o) i db (eqb (o .reading) 2) d) k l in
+    let s = along-cursor (openOf o) i k db (b .x) (sym (b .row) ∙ d) (b .lies) (h .is) in
+    let v : shownOf reading number i k db ≡ record { refused = accepted; value = valueAt (c .reading) (h .t) (h .at) db } =
+    b .shows k ∙ ap (shownIn (readingOf (o .reading)) db) (s .0)
+    ∙ ap (λ (r : Reading). shownIn r db (cl.Shown (h .t) (h .at))) (sym (s .1)) ∙ shown-value (c .reading) db (h .t) (h .at) in
+    rw (v, d, over-run (runFrom places c db) table) (refl, place-holds k places c db (drop (length (wordsIn (runFrom places c db))) table) room (h .is))
 
 -- HOW MANY
 
@@ -230,16 +243,16 @@ record Fitting (n places columns k : ℕ) : Type 0 where
 module _ {r : Reading} {columns : ℕ} (db : List ℕ) where
   fitting : (places : ℕ) (c : Cursor) (n : ℕ) → Left r columns db c n → n ≤ columns → Fitting n places columns (countIn (runFrom places c db))
   fitting zero c n h l = rw (run-full c db) (record { within = omega arith; counted = omega arith; all = λ m. absurd (omega arith) })
-  fitting (suc places) c n h l = go (ltb n columns) refl (λ x m. fitting places (behind (x .m) (x .w) c) (n + 1) (x .left) m)
+  fitting (suc places) c n h l = go (ltb n columns) refl (λ x m. fitting places (behind (x .t .length) (x .w) c) (n + 1) (x .left) m)
     where
       go : (b : Bool) → ltb n columns ≡ b
-          → ((x : Next r columns db c n) → n + 1 ≤ columns → Fitting (n + 1) places columns (countIn (runFrom places (behind (x .m) (x .w) c) db)))
+          → ((x : Next r columns db c n) → n + 1 ≤ columns → Fitting (n + 1) places columns (countIn (runFrom places (behind (x .t .length) (x .w) c) db)))
           → Fitting n (suc places) columns (countIn (runFrom (suc places) c db))
       go true e ih =
           let m = ltb-true n columns e in
           let x = next db c n h m in
           let f = ih x (omega arith) in
-          rw (run-more places c db (x .step), one-counted (wordsOf (valueAt (c .reading) (x .t) (c .value) db)) (runFrom places (behind (x .m) (x .w) c) db))
+          rw (run-more places c db (x .step), one-counted (wordsOf (valueAt (c .reading) (x .t .value) (c .value) db)) (runFrom places (behind (x .t .length) (x .w) c) db))
           (record { within = omega (arith, f .within); counted = omega (arith, f .counted); all = λ k. (let a = f .all (omega arith) in omega arith) })
       go false e ih =
           let m = ltb-false n columns e in
@@ -248,8 +261,8 @@ module _ {r : Reading} {columns : ℕ} (db : List ℕ) where
 filled-count : (n columns : ℕ) (r : Run) → rowOf n columns (filledBy r) .count ≡ countIn r
 filled-count n columns (run m c words) = refl
 
-smaller : (places columns k : ℕ) → Fitting 0 places columns k → k ≡ pick (ltb columns places) columns places
-smaller places columns k f = go (ltb columns places) refl
+all-that-fit : (places columns k : ℕ) → Fitting 0 places columns k → k ≡ pick (ltb columns places) columns places
+all-that-fit places columns k f = go (ltb columns places) refl
   where
     go : (b : Bool) → ltb columns places ≡ b → k ≡ pick b columns places
     go true e = let l = ltb-true columns places e in omega (arith, f .counted, f .all (omega (arith, f .counted)))
@@ -262,4 +275,4 @@ smaller places columns k f = go (ltb columns places) refl
 pub as-many-as-fit : AsManyAsFit
 as-many-as-fit i places db o n columns c d =
     let w = found-whole (openOf o) i db (eqb (o .reading) 2) d in
-    rw d (filled-count n columns (runFrom places c db) ∙ smaller places columns (countIn (runFrom places c db)) (fitting db places c 0 (at-first c columns db w) (omega arith)))
+    rw d (filled-count n columns (runFrom places c db) ∙ all-that-fit places columns (countIn (runFrom places c db)) (fitting db places c 0 (at-first c columns db w) (omega arith)))

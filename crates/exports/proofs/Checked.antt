@@ -10,27 +10,29 @@ use lib.ListN.{length, take, drop, getD}
 use lib.Seq.{sets}
 use borrow.Author.Tests.{le-ltb}
 use Rattle.laws.proofs.Parts.{tail}
+use Rattle.varint.specs.declared.Number.{Number}
 use Rattle.varint.specs.declared.Varint.{Varint}
 use Rattle.varint.specs.declared.Varint.the-variants as vi
-use Rattle.varint.specs.Varint.{varintOf}
+use Rattle.varint.specs.Varint.{number, varintOf}
 use Rattle.reading.specs.declared.Reading.{Reading}
 use Rattle.reading.specs.Reading.{limit}
 use Rattle.serial.specs.declared.Width.the-variants as wi
 use Rattle.serial.specs.Serial.{widthOf}
 use Rattle.record.specs.Types.{count, walk}
 use Rattle.record.proofs.Laws.{none-counted}
-use Rattle.record.proofs.Room.{Past}
+use Rattle.record.proofs.Room.{Past, fits-past}
 use Rattle.record.proofs.Room as room
 use Rattle.columns.specs.declared.Cursor.{Cursor}
 use Rattle.columns.specs.declared.Stepped.the-variants.{Column, Done}
-use Rattle.columns.specs.Columns.{typesAt, behind, stepOf}
+use Rattle.columns.specs.Columns.{typesAt, endIn, slotOf, behind, stepOf}
 use Rattle.columns.proofs.Laws.{ahead, types-behind, type-byte, step-passes, step-none}
+use Rattle.columns.proofs.Extents.{There, past-found}
 use Rattle.exports.specs.declared.types.Value.{Value}
-use Rattle.exports.specs.Turns.{filledOf}
-use Rattle.exports.specs.Batch.{wordsOf, valueAt, runFrom, filledBy, over}
-use Rattle.exports.specs.Whole.{Whole, shapeOf, valueBy, bytesIn}
+use Rattle.exports.specs.Rows.{filledOf}
+use Rattle.exports.specs.Run.{wordsOf, valueAt, runFrom, filledBy, over}
+use Rattle.exports.specs.Whole.{Whole, mannerOf, valueBy, bytesIn}
 use Rattle.exports.proofs.Filling.{Held, one-more, all-stored, run-done, run-full}
-use Rattle.exports.proofs.Shapes.{shape-shows}
+use Rattle.exports.proofs.Manners.{manner-shows}
 
 -- of so many columns n are behind the cursor, and the rest are all there
 pub record Left (r : Reading) (columns : ℕ) (db : List ℕ) (c : Cursor) (n : ℕ) : Type 0 where
@@ -42,20 +44,32 @@ pub record Left (r : Reading) (columns : ℕ) (db : List ℕ) (c : Cursor) (n : 
 
 pub at-first : (c : Cursor) (columns : ℕ) (db : List ℕ) → Whole c columns db → Left (c .reading) columns db c 0
 at-first c columns db w =
-    record { reading = refl; ordered = w .ordered; within = w .within; past = w .past; counted = zero-add (count (typesAt c db)) ∙ w .columns }
+    record {
+      reading = refl;
+      ordered = w .ordered;
+      within = w .within;
+      past = fits-past (c .reading) (typesAt c db) (walk 0 (c .end - c .value) (typesAt c db)) (w .fits);
+      counted = zero-add (count (typesAt c db)) ∙ w .columns;
+    }
+
+-- so each of them is found
+pub whole-found : (c : Cursor) (n : ℕ) (db : List ℕ) → Whole c n db → (k : ℕ) → k < n → There (slotOf k c db)
+unfolding slotOf
+whole-found c n db w k l =
+    let all : endIn c db ≡ c .end = omega (arith, w .within) in
+    rw all (past-found k 0 (c .value) (c .end) (typesAt c db) (at-first c n db w .past) (rw (w .columns) l))
 
 -- ONE COLUMN MORE
 
--- its type t of m bytes, its value of w bytes, and the step there
+-- its type t, its value of w bytes, and the step there
 pub record Next (r : Reading) (columns : ℕ) (db : List ℕ) (c : Cursor) (n : ℕ) : Type 0 where
-  pub t : ℕ
-  pub m : ℕ
+  pub t : Number
   pub w : ℕ
-  pub read : varintOf (limit (c .reading)) (ahead c db) ≡ vi.Value t m
-  pub width : widthOf t ≡ wi.Bytes w
+  pub read : varintOf (limit (c .reading)) (ahead c db) ≡ vi.Value t
+  pub width : widthOf (t .value) ≡ wi.Bytes w
   pub room : c .value + w ≤ c .end
-  pub step : stepOf c db ≡ Column t (c .value) (behind m w c)
-  pub left : Left r columns db (behind m w c) (n + 1)
+  pub step : stepOf c db ≡ Column (t .value) (c .value) (behind (t .length) w c)
+  pub left : Left r columns db (behind (t .length) w c) (n + 1)
 
 module _ {r : Reading} {columns : ℕ} (db : List ℕ) (c : Cursor) (n : ℕ) (h : Left r columns db c n) where
   pub none-left : columns ≤ n → stepOf c db ≡ Done
@@ -66,19 +80,19 @@ module _ {r : Reading} {columns : ℕ} (db : List ℕ) (c : Cursor) (n : ℕ) (h
     where
       go : (v : Varint) → varintOf (limit (c .reading)) (ahead c db) ≡ v → Next r columns db c n
       go (vi.Unfinished cause) e = absurd (omega (arith, h .counted, none-counted (limit (c .reading)) (ahead c db) e))
-      go (vi.Value t m) e =
-          let rest = typesAt (behind m 0 c) db in
+      go (vi.Value t) e =
+          let rest = typesAt (behind (t .length) 0 c) db in
           let i = types-behind c db e 0 in
-          let p = room.passed Past (λ k d. d) (λ k d. d) n (c .end - c .value) t m rest (rw i at (h .past)) in
+          let p = room.passed Past (λ k d. d) (λ k d. d) n (c .end - c .value) t rest (rw i at (h .past)) in
           let over : c .end - c .value - p .width ≡ c .end - (c .value + p .width) = omega arith in
+          let all : endIn c db ≡ c .end = omega (arith, h .within) in
           record {
             t = t;
-            m = m;
             w = p .width;
             read = e;
             width = p .has;
             room = omega (arith, p .room, h .ordered);
-            step = step-passes c db e (p .has) ∙ rw (le-ltb (c .end - c .value) (p .width) (p .room));
+            step = step-passes c db e (p .has) ∙ rw (all, le-ltb (c .end - c .value) (p .width) (p .room));
             left = record {
               reading = h .reading;
               ordered = omega (arith, p .room, h .ordered);
@@ -90,35 +104,35 @@ module _ {r : Reading} {columns : ℕ} (db : List ℕ) (c : Cursor) (n : ℕ) (h
 
 -- where the type is one byte
 module _ {r : Reading} {columns : ℕ} (db : List ℕ) (c : Cursor) (n : ℕ) (h : Left r columns db c n) (x : Next r columns db c n) (b : getD db (c .at) 0 < 128) where
-  type-is : (x .t ≡ getD db (c .at) 0) × (x .m ≡ 1)
+  type-is : x .t ≡ number (getD db (c .at) 0) 1
   type-is = type-byte c db (x .read) b
 
   pub byte-width : widthOf (getD db (c .at) 0) ≡ wi.Bytes (x .w)
-  byte-width = rw (type-is .0) at (x .width)
+  byte-width = rw type-is at (x .width)
 
-  pub byte-value : valueBy (shapeOf r) (getD db (c .at) 0) (c .value) (take (length db - c .value) (drop (c .value) db))
-      ≡ valueAt (c .reading) (x .t) (c .value) db
+  pub byte-value : valueBy (mannerOf r) (getD db (c .at) 0) (c .value) (take (length db - c .value) (drop (c .value) db))
+      ≡ valueAt (c .reading) (x .t .value) (c .value) db
   byte-value =
-      rw (tail db (c .value), ← type-is .0, ← h .reading) (shape-shows (c .reading) (x .t) (c .value) db)
+      rw (tail db (c .value), type-is, ← h .reading) (manner-shows (c .reading) (getD db (c .at) 0) (c .value) db)
 
   pub byte-behind : (end : ℕ) → end ≡ c .value + bytesIn (widthOf (getD db (c .at) 0))
-      → record { reading = r; at = c .at + 1; stop = c .stop; value = end; end = c .end } ≡ behind (x .m) (x .w) c
-  byte-behind end e = rw (e, byte-width, type-is .1, h .reading)
+      → record { reading = r; at = c .at + 1; stop = c .stop; value = end; end = c .end } ≡ behind (x .t .length) (x .w) c
+  byte-behind end e = rw (e, byte-width, type-is, h .reading)
 
 -- where a step was taken
 module _ {r : Reading} {columns : ℕ} (db : List ℕ) (c : Cursor) (n : ℕ) (h : Left r columns db c n) (x : Next r columns db c n) {t at : ℕ} {on : Cursor}
     (e : stepOf c db ≡ Column t at on) where
-  same : Column t at on ≡ Column (x .t) (c .value) (behind (x .m) (x .w) c)
+  same : Column t at on ≡ Column (x .t .value) (c .value) (behind (x .t .length) (x .w) c)
   same = sym e ∙ x .step
 
-  pub step-value : valueAt r t at db ≡ valueAt (c .reading) (x .t) (c .value) db
+  pub step-value : valueAt r t at db ≡ valueAt (c .reading) (x .t .value) (c .value) db
   step-value =
       let d = same in
-      let i : t ≡ x .t = cc in
+      let i : t ≡ x .t .value = cc in
       let j : at ≡ c .value = cc in
       rw (i, j, h .reading)
 
-  pub step-behind : on ≡ behind (x .m) (x .w) c
+  pub step-behind : on ≡ behind (x .t .length) (x .w) c
   step-behind = let d = same in cc
 
 -- THE TURNS OF A LOOP
@@ -127,10 +141,10 @@ module _ (places : ℕ) (first : Cursor) (db : List ℕ) (lent : List ℤ) (room
     (h : Held places first db lent table here n) {r : Reading} {columns : ℕ} where
   -- one value more
   pub goes-on : (x : Next r columns db here n) (l : n < places) {after : List ℤ} {there : Cursor} (v : Value)
-      → v ≡ valueAt (here .reading) (x .t) (here .value) db → after ≡ sets table (5 * n) (wordsOf v) → there ≡ behind (x .m) (x .w) here
+      → v ≡ valueAt (here .reading) (x .t .value) (here .value) db → after ≡ sets table (5 * n) (wordsOf v) → there ≡ behind (x .t .length) (x .w) here
       → Held places first db lent after there (n + 1) × Left r columns db there (n + 1)
   goes-on x l {after} {there} v e s t =
-      rw (s, t) (one-more places first db lent room table here n h (wordsOf v) (behind (x .m) (x .w) here) l (x .step) (ap wordsOf (sym e)) refl, x .left)
+      rw (s, t) (one-more places first db lent room table here n h (wordsOf v) (behind (x .t .length) (x .w) here) l (x .step) (ap wordsOf (sym e)) refl, x .left)
 
   -- no value more: `most` is the smaller of both numbers
   pub comes-to-end : {A B : Type 0} {most : ℕ} → Left r columns db here n → _⊎_ (A × (most ≡ columns)) (B × (most ≡ places)) → most ≤ n

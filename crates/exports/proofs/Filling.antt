@@ -10,8 +10,8 @@ use lib.Seq.{length-take-le, sets, length-sets, sets-eq, take-at, drop-at, drop-
 use Rattle.columns.specs.declared.Cursor.{Cursor}
 use Rattle.columns.specs.declared.Stepped.the-variants.{Column, Done}
 use Rattle.columns.specs.Columns.{stepOf}
-use Rattle.exports.specs.Turns.{filledOf}
-use Rattle.exports.specs.Batch.{Run, run, before, wordsOf, valueAt, runFrom, filledBy, over}
+use Rattle.exports.specs.Rows.{filledOf}
+use Rattle.exports.specs.Run.{Run, run, before, wordsOf, valueAt, runFrom, filledBy, over}
 
 -- RUNS
 

@@ -1,6 +1,6 @@
 pub mod Filling
-pub mod Shapes
+pub mod Manners
 pub mod Checked
-pub mod Rows
-pub mod Pages
+pub mod Found
+pub mod Back
 pub mod Agreement

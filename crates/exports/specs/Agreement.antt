@@ -6,18 +6,18 @@ use Prim.Native.Nat.{ℕ, _*_, _<_}
 use mathlib.Core.Path.{_≡_}
 use mathlib.Core.List.{List}
 use lib.Dec.{ltb, eqb}
-use lib.IntN.{ℤ, pos}
+use lib.IntN.{ℤ}
 use lib.ListN.{take, drop}
 use Rattle.laws.specs.Pick.{pick}
 use Rattle.columns.specs.declared.Cursor.{Cursor}
-use Rattle.page.specs.Entry.{rowNumber}
 use Rattle.usual.specs.declared.RowAnswer.{RowAnswer}
 use Rattle.usual.specs.declared.RowAnswer.the-variants as ra
 use Rattle.exports.specs.declared.types.Opened.{Opened}
 use Rattle.exports.specs.declared.types.Cell.{Cell}
 use Rattle.exports.specs.declared.types.Shown.{Shown}
-use Rattle.exports.specs.Turns.{accepted, refusedBy, nowhere, alongOf}
-use Rattle.exports.specs.Batch.{wordsOf}
+use Rattle.exports.specs.Refusals.{accepted}
+use Rattle.exports.specs.Rows.{noCell, cellOf}
+use Rattle.exports.specs.Run.{wordsOf}
 use Rattle.exports.specs.Calls.{openingOf, rowIn, rowBy, rowOver, oldCell, fileCell, guardedCell, oldShownOf, fileShownOf, guardedShownOf}
 
 -- SINGLE CALLS, by the number of the reading: 0 is old, 2 guarded, any other number file
@@ -26,8 +26,8 @@ abbrev pub byReading : {A : Type 0} → ℕ → A → A → A → A
 byReading reading inOld inGuarded inFile = pick (eqb reading 0) inOld (pick (eqb reading 2) inGuarded inFile)
 
 -- cell i of the page of that number
-abbrev pub cellOf : ℕ → ℕ → ℕ → List ℕ → Cell
-cellOf reading number i db = byReading reading (oldCell number i db) (guardedCell number i db) (fileCell number i db)
+abbrev pub cellIn : ℕ → ℕ → ℕ → List ℕ → Cell
+cellIn reading number i db = byReading reading (oldCell number i db) (guardedCell number i db) (fileCell number i db)
 
 -- column k of it
 abbrev pub shownOf : ℕ → ℕ → ℕ → ℕ → List ℕ → Shown
@@ -38,13 +38,13 @@ shownOf reading number i k db =
 
 -- a row as the call on its cell answers it
 abbrev pub cellFrom : RowAnswer → Cell
-cellFrom (ra.Refused refusal) = record { refused = refusedBy refusal; row = pos 0; columns = 0; along = nowhere }
-cellFrom (ra.Shown number columns c) = record { refused = accepted; row = rowNumber number; columns = columns; along = alongOf c }
+cellFrom (ra.Refused refusal) = noCell refusal
+cellFrom (ra.Shown number columns c) = cellOf number columns c
 
 abbrev pub CellsAgree : Type 0
 CellsAgree = (reading number i : ℕ) (db : List ℕ) (o : Opened)
     → openingOf reading number db ≡ record { refused = accepted; opened = o }
-    → cellOf reading number i db ≡ cellFrom (rowIn o i db)
+    → cellIn reading number i db ≡ cellFrom (rowIn o i db)
 
 -- ITS VALUES
 

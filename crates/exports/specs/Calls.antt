@@ -6,44 +6,65 @@ use lib.IntN.{ℤ}
 use Rattle.laws.specs.Pick.{pick}
 use Rattle.reading.specs.declared.Reading.the-variants.{Old, File}
 use Rattle.header.specs.Header as header
-use Rattle.page.specs.Place.{oldKey, fileKey}
-use Rattle.page.specs.Open as opening
-use Rattle.page.specs.Page as page
-use Rattle.row.specs.Row.{foundBy, foundOf}
+use Rattle.place.specs.Place.{oldPage, filePage}
+use Rattle.place.specs.Shape.{shapeOf, shapeAnswer}
+use Rattle.page.specs.declared.OpenAnswer.{OpenAnswer}
+use Rattle.page.specs.Open as page
+use Rattle.page.specs.Open.{openAnswer}
+use Rattle.cells.specs.Located.{locatedOf}
+use Rattle.table.specs.declared.Entry.{Entry}
+use Rattle.table.specs.Entry.{entryFor, filled}
+use Rattle.table.specs.Page as table
+use Rattle.row.specs.Found.{foundBy}
 use Rattle.row.specs.Old as old
 use Rattle.row.specs.File as file
 use Rattle.guarded.specs.Guarded as guarded
 use Rattle.usual.specs.declared.RowAnswer.{RowAnswer}
 use Rattle.usual.specs.declared.RowAnswer.the-variants as ra
 use Rattle.usual.specs.Usual as usual
+use Rattle.exports.specs.declared.types.Header.{Header}
+use Rattle.exports.specs.declared.types.Pages.{Pages}
+use Rattle.exports.specs.declared.types.PageHead.{PageHead}
 use Rattle.exports.specs.declared.types.Opened.{Opened}
 use Rattle.exports.specs.declared.types.Opening.{Opening}
 use Rattle.exports.specs.declared.types.Along.{Along}
 use Rattle.exports.specs.declared.types.Cell.{Cell}
 use Rattle.exports.specs.declared.types.Shown.{Shown}
-use Rattle.exports.specs.declared.types.Header.{Header}
-use Rattle.exports.specs.declared.types.Page.{Page}
 use Rattle.exports.specs.declared.types.Row.{Row}
-use Rattle.exports.specs.Turns.{numberOf, readingOf, keyOf, openingBy, openOf, cursorOf, cellBy, noRow, rowOf, headerBy, pageBy}
-use Rattle.exports.specs.Batch.{Run, runFrom, filledBy, over}
-use Rattle.exports.specs.Values.{oldShown, fileShown}
+use Rattle.exports.specs.Pages.{numberOf, readingOf, pageOf, headerBy, pagesBy, headBy, openingBy, openOf}
+use Rattle.exports.specs.Rows.{cursorOf, cellBy, noRow, rowOf}
+use Rattle.exports.specs.Shown.{oldShown, fileShown}
+use Rattle.exports.specs.Run.{Run, runFrom, filledBy, over}
 
 -- THE DATABASE AND ITS PAGES
 
 abbrev pub headerOf : ℕ → List ℕ → Header
 headerOf reading db = headerBy (header.headerOf (readingOf reading) db)
 
+abbrev pub pagesOf : ℕ → List ℕ → Pages
+pagesOf reading db = pagesBy (shapeAnswer (shapeOf (readingOf reading) db))
+
 -- where a table of `room` entries is lent
-abbrev pub pageOf : ℕ → ℕ → ℕ → List ℕ → Page
-pageOf reading number room db = pageBy (page.pageOf (keyOf reading number) room db)
+abbrev pub headOf : ℕ → ℕ → ℕ → List ℕ → PageHead
+headOf reading number room db = headBy (table.pageOf (pageOf reading number) room db)
+
+abbrev pub pageOpened : ℕ → ℕ → List ℕ → OpenAnswer
+pageOpened reading number db = openAnswer (page.openOf (pageOf reading number) db)
+
+-- the entry of cell i, and a table in which the first n are filled
+abbrev pub entryOf : ℕ → ℕ → ℕ → List ℕ → Entry
+entryOf reading number i db = entryFor (pageOpened reading number db) db i
+
+abbrev pub entriesOver : ℕ → ℕ → List ℕ → ℕ → List Entry → List Entry
+entriesOver reading number db n ys = filled (pageOpened reading number db) db n ys
 
 -- A PAGE THAT IS OPENED
 
 -- in the guarded reading where its number is 2
 abbrev pub openingOf : ℕ → ℕ → List ℕ → Opening
 openingOf reading number db =
-    pick (eqb reading 2) (openingBy reading (guarded.openOf number db))
-    (openingBy (numberOf (readingOf reading)) (opening.openOf (keyOf reading number) db))
+    pick (eqb reading 2) (openingBy reading (openAnswer (guarded.openOf number db)))
+    (openingBy (numberOf (readingOf reading)) (pageOpened reading number db))
 
 -- cell i of it
 abbrev pub rowIn : Opened → ℕ → List ℕ → RowAnswer
@@ -62,10 +83,10 @@ rowOver places db (ra.Shown number columns c) table = over (runFrom places c db)
 -- ONE CELL
 
 abbrev pub oldCell : ℕ → ℕ → List ℕ → Cell
-oldCell number i db = cellBy (foundOf (oldKey number) i db)
+oldCell number i db = cellBy (foundBy (locatedOf (oldPage number) i db))
 
 abbrev pub fileCell : ℕ → ℕ → List ℕ → Cell
-fileCell number i db = cellBy (foundOf (fileKey number) i db)
+fileCell number i db = cellBy (foundBy (locatedOf (filePage number) i db))
 
 abbrev pub guardedCell : ℕ → ℕ → List ℕ → Cell
 guardedCell number i db = cellBy (foundBy (guarded.locatedOf number i db))

@@ -1,6 +1,8 @@
-pub mod Turns
-pub mod Values
-pub mod Batch
+pub mod Refusals
+pub mod Pages
+pub mod Rows
+pub mod Shown
+pub mod Run
 pub mod Whole
 pub mod Calls
 pub mod Agreement

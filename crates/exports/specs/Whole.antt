@@ -15,42 +15,44 @@ use Rattle.serial.specs.declared.Width.{Width}
 use Rattle.serial.specs.declared.Width.the-variants as wi
 use Rattle.serial.specs.Serial.{isBlob, lengthOf}
 use Rattle.record.specs.Types.{count, walk}
-use Rattle.record.proofs.Room.{Past}
+use Rattle.record.specs.Record.{judged}
+use Rattle.record.specs.declared.Fit.the-variants.{Fits}
 use Rattle.columns.specs.declared.Cursor.{Cursor}
 use Rattle.columns.specs.Columns.{typesAt}
 use Rattle.exports.specs.declared.types.Value.{Value}
-use Rattle.exports.specs.declared.whole.Shape.{Shape}
-use Rattle.exports.specs.Turns.{empty, integerOf, realOf, longOf}
+use Rattle.exports.specs.declared.whole.Manner.{Manner}
+use Rattle.exports.specs.Shown.{empty, integerOf, realOf, longOf}
 
 -- n columns from the cursor on, all of them there
 pub record Whole (c : Cursor) (n : ℕ) (db : List ℕ) : Type 0 where
   pub ordered : c .value ≤ c .end
   pub within : c .end ≤ length db
-  pub past : Past (walk 0 (c .end - c .value) (typesAt c db))
+  pub left : ℕ
+  pub fits : judged (c .reading) (typesAt c db) (walk 0 (c .end - c .value) (typesAt c db)) ≡ Fits (count (typesAt c db)) left
   pub columns : count (typesAt c db) ≡ n
 
 -- the widths of integers, what type 9 shows, and the first type that shows bytes
-abbrev pub shapeOf : Reading → Shape
-shapeOf old = record { i8 = 8; i16 = 16; i32 = 32; i64 = 64; one = pos 0; least = 14 }
-shapeOf file = record { i8 = 0; i16 = 0; i32 = 0; i64 = 0; one = pos 1; least = 12 }
+abbrev pub mannerOf : Reading → Manner
+mannerOf old = record { i8 = 8; i16 = 16; i32 = 32; i64 = 64; one = pos 0; least = 14 }
+mannerOf file = record { i8 = 0; i16 = 0; i32 = 0; i64 = 0; one = pos 1; least = 12 }
 
 -- a text or a blob at `at`; the types below `least` have no value to show
 abbrev pub longFrom : ℕ → ℕ → ℕ → Value
-longFrom least kind at =
-    pick (ltb kind least) empty (pick (isBlob kind) (longOf 4 at (lengthOf kind)) (longOf 3 at (lengthOf kind)))
+longFrom least serial at =
+    pick (ltb serial least) empty (pick (isBlob serial) (longOf 4 at (lengthOf serial)) (longOf 3 at (lengthOf serial)))
 
--- the value of a type by a shape: s begins with its bytes and stands at `at`
-unfoldable pub valueBy : Shape → ℕ → ℕ → List ℕ → Value
-valueBy shape kind at s =
-    pick (eqb kind 0) empty
-    (pick (eqb kind 1) (integerOf (shape .i8) (signed 1 s))
-    (pick (eqb kind 2) (integerOf (shape .i16) (signed 2 s))
-    (pick (ltb kind 5) (integerOf (shape .i32) (signed (getD widths kind 0) s))
-    (pick (ltb kind 7) (integerOf (shape .i64) (signed (getD widths kind 0) s))
-    (pick (eqb kind 7) (realOf (unsigned 8 s))
-    (pick (eqb kind 8) (integerOf (shape .i8) (pos 0))
-    (pick (eqb kind 9) (integerOf (shape .i8) (shape .one))
-    (longFrom (shape .least) kind at))))))))
+-- the value of a type by a manner: s begins with its bytes and stands at `at`
+unfoldable pub valueBy : Manner → ℕ → ℕ → List ℕ → Value
+valueBy manner serial at s =
+    pick (eqb serial 0) empty
+    (pick (eqb serial 1) (integerOf (manner .i8) (signed 1 s))
+    (pick (eqb serial 2) (integerOf (manner .i16) (signed 2 s))
+    (pick (ltb serial 5) (integerOf (manner .i32) (signed (getD widths serial 0) s))
+    (pick (ltb serial 7) (integerOf (manner .i64) (signed (getD widths serial 0) s))
+    (pick (eqb serial 7) (realOf (unsigned 8 s))
+    (pick (eqb serial 8) (integerOf (manner .i8) (pos 0))
+    (pick (eqb serial 9) (integerOf (manner .i8) (manner .one))
+    (longFrom (manner .least) serial at))))))))
 
 -- how many bytes a value has; 0 where that is not known
 abbrev pub bytesIn : Width → ℕ

@@ -1,31 +1,33 @@
 // Every public call for C and Rust: a turn of types and nothing more.
 //
-// Each function calls one of a reader and hands its answer on as a struct of numbers (`types`, `turns`): C has no enums
-// that hold something, and an exported function answers no reference. Nothing is decided here. The values of a row are
-// stored in a table, from any cursor by the readers' own steps (`batch`), and of a row that is found in the same call with
-// nothing looked for twice (`whole`). include/shorgavel.h declares the calls. A slice is a pointer that is not null and a
-// length, also where it is empty. Pages count from 0 in the old reading and from 1 in the other two.
-mod batch;
-mod turns;
+// Each function calls one of a reader and hands its answer on as a struct of numbers (`types`; `refusals`, `pages`, `rows` and
+// `shown` turn them): C has no enums that hold something, and an exported function answers no reference. Nothing is decided
+// here. The values of a row are stored in a table, from any cursor by the readers' own steps (`run`), and of a row that is
+// found in the same call with nothing looked for twice (`whole`). include/shorgavel.h declares the calls. A slice is a pointer
+// that is not null and a length, also where it is empty. Pages count from 0 in the old reading and from 1 in the other two.
+mod pages;
+mod refusals;
+mod rows;
+mod run;
+mod shown;
 pub mod types;
 mod whole;
 
 ghost use mathlib.Core.Path.{_≡_};
 ghost use Prim.Native.Nat.{_/_};
 ghost use lib.ListN.{length};
-ghost use Rattle.page.specs.Page.{entryAt, filled};
-ghost use Rattle.exports.specs.Turns.{keyOf};
-ghost use Rattle.exports.specs.Batch.{filledBy, over};
-ghost use Rattle.exports.specs.Calls.{headerOf, pageOf, openingOf, rowIn, rowBy, rowOver, oldCell, fileCell, guardedCell, oldRun, fileRun, oldShownOf, fileShownOf, guardedShownOf};
-use page::Entry;
+ghost use Rattle.exports.specs.Run.{filledBy, over};
+ghost use Rattle.exports.specs.Calls.{headerOf, pagesOf, headOf, entryOf, entriesOver, openingOf, rowIn, rowBy, rowOver, oldCell, fileCell, guardedCell, oldRun, fileRun, oldShownOf, fileShownOf, guardedShownOf};
 use reading::Reading;
+use table::Entry;
 use types::Along;
 use types::Cell;
 use types::Filled;
 use types::Header;
 use types::Opened;
 use types::Opening;
-use types::Page;
+use types::PageHead;
+use types::Pages;
 use types::Row;
 use types::Shown;
 use usual::RowAnswer;
@@ -36,15 +38,23 @@ use usual::RowAnswer;
 pub extern "C" fn shorgavel_header(db: &[u8], reading: u8) -> Header
     ensures { λ r. ⌜ r ≡ headerOf reading (now (db .entry)) ⌝ }
 {
-    turns::header_by(header::header_of(db, turns::reading_of(reading)))
+    pages::header_by(header::header_of(db, pages::reading_of(reading)))
+}
+
+// How many pages there are, behind the header's checks.
+#[no_mangle]
+pub extern "C" fn shorgavel_pages(db: &[u8], reading: u8) -> Pages
+    ensures { λ r. ⌜ r ≡ pagesOf reading (now (db .entry)) ⌝ }
+{
+    pages::pages_by(place::shape_of(db, pages::reading_of(reading)))
 }
 
 // The head of a page, every cell of which is checked. No page has more cells than the room that is named here.
 #[no_mangle]
-pub extern "C" fn shorgavel_page(db: &[u8], reading: u8, number: u32) -> Page
-    ensures { λ r. ⌜ r ≡ pageOf reading number 65536 (now (db .entry)) ⌝ }
+pub extern "C" fn shorgavel_page(db: &[u8], reading: u8, number: u32) -> PageHead
+    ensures { λ r. ⌜ r ≡ headOf reading number 65536 (now (db .entry)) ⌝ }
 {
-    turns::page_by(page::check_page(db, turns::key_of(reading, number), 65_536))
+    pages::head_by(table::check_page(db, pages::page_of(reading, number), 65_536))
 }
 
 // The page call: the same, and the entries of the cells in the table that is lent. As many are written as the head counts,
@@ -55,21 +65,21 @@ pub extern "C" fn shorgavel_entries(
     reading: u8,
     number: u32,
     table: &mut [Entry],
-) -> Page
-    ensures { λ r. ⌜ (r ≡ pageOf reading number (length (now (table .entry))) (now (db .entry)))
-        × (now (table .exit) ≡ filled (keyOf reading number) (now (db .entry)) (r .head .cells) (now (table .entry))) ⌝ }
+) -> PageHead
+    ensures { λ r. ⌜ (r ≡ headOf reading number (length (now (table .entry))) (now (db .entry)))
+        × (now (table .exit) ≡ entriesOver reading number (now (db .entry)) (r .head .cells) (now (table .entry))) ⌝ }
 {
-    let key = turns::key_of(reading, number);
-    let answer = lent::page(db, key, table);
-    turns::page_by(answer)
+    let page = pages::page_of(reading, number);
+    let answer = lent::page(db, page, table);
+    pages::head_by(answer)
 }
 
 // The entry of cell `i`; zeros where there is no such cell.
 #[no_mangle]
 pub extern "C" fn shorgavel_entry(db: &[u8], reading: u8, number: u32, i: usize) -> Entry
-    ensures { λ r. ⌜ r ≡ entryAt (keyOf reading number) (now (db .entry)) i ⌝ }
+    ensures { λ r. ⌜ r ≡ entryOf reading number i (now (db .entry)) ⌝ }
 {
-    page::entry_at(db, turns::key_of(reading, number), i)
+    table::entry_by(db, page::open_page(db, pages::page_of(reading, number)), i)
 }
 
 // A PAGE THAT IS OPENED, for its cells one after the other: 2 is guarded, which opens table leaves alone
@@ -78,11 +88,11 @@ pub extern "C" fn shorgavel_entry(db: &[u8], reading: u8, number: u32, i: usize)
 pub extern "C" fn shorgavel_open(db: &[u8], reading: u8, number: u32) -> Opening
     ensures { λ r. ⌜ r ≡ openingOf reading number (now (db .entry)) ⌝ }
 {
-    if turns::is_guarded(reading) {
-        return turns::opening_by(reading, guarded::open_page(db, number));
+    if pages::is_guarded(reading) {
+        return pages::opening_by(reading, guarded::open_page(db, number));
     }
-    let answer = page::open_page(db, turns::key_of(reading, number));
-    turns::opening_by(turns::told(reading), answer)
+    let answer = page::open_page(db, pages::page_of(reading, number));
+    pages::opening_by(pages::told(reading), answer)
 }
 
 // A row with its values, as many as the table has places; the cursor goes on behind them. On a refusal the table is left as
@@ -92,17 +102,17 @@ pub extern "C" fn shorgavel_row_in(db: &[u8], opened: Opened, i: usize, table: &
     ensures { λ r. ⌜ (r ≡ rowBy (length (now (table .entry)) / 5) (now (db .entry)) (rowIn opened i (now (db .entry))))
         × (now (table .exit) ≡ rowOver (length (now (table .entry)) / 5) (now (db .entry)) (rowIn opened i (now (db .entry))) (now (table .entry))) ⌝ }
 {
-    let guarded = turns::is_guarded(opened.reading);
-    let answer = usual::row_in(db, turns::open_of(opened), guarded, i);
+    let guarded = pages::is_guarded(opened.reading);
+    let answer = usual::row_in(db, pages::open_of(opened), guarded, i);
     match answer {
-        RowAnswer::Refused(refusal) => turns::no_row(refusal),
+        RowAnswer::Refused(refusal) => rows::no_row(refusal),
         RowAnswer::Shown {
             number,
             columns,
             cursor,
         } => {
             let filled = whole::fill(db, cursor, columns, table);
-            turns::row_of(number, columns, filled)
+            rows::row_of(number, columns, filled)
         }
     }
 }
@@ -113,21 +123,21 @@ pub extern "C" fn shorgavel_row_in(db: &[u8], opened: Opened, i: usize, table: &
 pub extern "C" fn shorgavel_old_cell(db: &[u8], number: u32, i: usize) -> Cell
     ensures { λ r. ⌜ r ≡ oldCell number i (now (db .entry)) ⌝ }
 {
-    turns::cell_by(row::found(db, page::old(number), i))
+    rows::cell_by(row::found(db, place::old(number), i))
 }
 
 #[no_mangle]
 pub extern "C" fn shorgavel_file_cell(db: &[u8], number: u32, i: usize) -> Cell
     ensures { λ r. ⌜ r ≡ fileCell number i (now (db .entry)) ⌝ }
 {
-    turns::cell_by(row::found(db, page::file(number), i))
+    rows::cell_by(row::found(db, place::file(number), i))
 }
 
 #[no_mangle]
 pub extern "C" fn shorgavel_guarded_cell(db: &[u8], number: u32, i: usize) -> Cell
     ensures { λ r. ⌜ r ≡ guardedCell number i (now (db .entry)) ⌝ }
 {
-    turns::cell_by(guarded::found(db, number, i))
+    rows::cell_by(guarded::found(db, number, i))
 }
 
 // THE VALUES OF A ROW
@@ -139,7 +149,7 @@ pub extern "C" fn shorgavel_old_values(db: &[u8], along: Along, table: &mut [i64
     ensures { λ r. ⌜ (r ≡ filledBy (oldRun along (length (now (table .entry)) / 5) (now (db .entry))))
         × (now (table .exit) ≡ over (oldRun along (length (now (table .entry)) / 5) (now (db .entry))) (now (table .entry))) ⌝ }
 {
-    batch::fill(db, turns::cursor_of(Reading::Old, along), table)
+    run::fill(db, rows::cursor_of(Reading::Old, along), table)
 }
 
 // A guarded row goes on with it too.
@@ -148,7 +158,7 @@ pub extern "C" fn shorgavel_file_values(db: &[u8], along: Along, table: &mut [i6
     ensures { λ r. ⌜ (r ≡ filledBy (fileRun along (length (now (table .entry)) / 5) (now (db .entry))))
         × (now (table .exit) ≡ over (fileRun along (length (now (table .entry)) / 5) (now (db .entry))) (now (table .entry))) ⌝ }
 {
-    batch::fill(db, turns::cursor_of(Reading::File, along), table)
+    run::fill(db, rows::cursor_of(Reading::File, along), table)
 }
 
 // ONE VALUE: column `k` of cell `i`
@@ -157,19 +167,19 @@ pub extern "C" fn shorgavel_file_values(db: &[u8], along: Along, table: &mut [i6
 pub extern "C" fn shorgavel_old_value(db: &[u8], number: u32, i: usize, k: usize) -> Shown
     ensures { λ r. ⌜ r ≡ oldShownOf number i k (now (db .entry)) ⌝ }
 {
-    turns::old_shown(row::old::value(db, number, i, k))
+    shown::old_shown(row::old::value(db, number, i, k))
 }
 
 #[no_mangle]
 pub extern "C" fn shorgavel_file_value(db: &[u8], number: u32, i: usize, k: usize) -> Shown
     ensures { λ r. ⌜ r ≡ fileShownOf number i k (now (db .entry)) ⌝ }
 {
-    turns::file_shown(row::file::value(db, number, i, k))
+    shown::file_shown(row::file::value(db, number, i, k))
 }
 
 #[no_mangle]
 pub extern "C" fn shorgavel_guarded_value(db: &[u8], number: u32, i: usize, k: usize) -> Shown
     ensures { λ r. ⌜ r ≡ guardedShownOf number i k (now (db .entry)) ⌝ }
 {
-    turns::file_shown(guarded::value(db, number, i, k))
+    shown::file_shown(guarded::value(db, number, i, k))
 }

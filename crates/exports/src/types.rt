@@ -1,5 +1,5 @@
 // What the calls take and answer: numbers in structs that C and Rust lay out alike. What does not apply is 0.
-use page::Head;
+use table::Head;
 
 // A refusal by its numbers; number 0: nothing is refused.
 #[repr(C)]
@@ -10,6 +10,28 @@ pub struct Refused {
     pub column: usize,
 }
 
+// THE DATABASE AND ITS PAGES
+
+#[repr(C)]
+pub struct Header {
+    pub refused: Refused,
+    pub fields: header::Header,
+}
+
+// How many pages there are.
+#[repr(C)]
+pub struct Pages {
+    pub refused: Refused,
+    pub count: usize,
+}
+
+// The head of a page whose cells are all accepted.
+#[repr(C)]
+pub struct PageHead {
+    pub refused: Refused,
+    pub head: Head,
+}
+
 // A page that is opened: `page::Open`, its reading and its kind by number.
 #[repr(C)]
 pub struct Opened {
@@ -18,6 +40,8 @@ pub struct Opened {
     // The format's byte; any other number than 2, 5 and 10 is taken for 13, a table leaf.
     pub kind: u8,
     pub end: u32,
+    // The page's, as its reading counts.
+    pub number: u32,
     pub at: usize,
     pub size: usize,
     pub from: usize,
@@ -29,6 +53,8 @@ pub struct Opening {
     pub refused: Refused,
     pub opened: Opened,
 }
+
+// ROWS AND VALUES
 
 // A cursor along a row: `columns::Cursor` of the reading whose call it is handed to.
 #[repr(C)]
@@ -84,17 +110,4 @@ pub struct Row {
     pub columns: usize,
     pub count: usize,
     pub along: Along,
-}
-
-#[repr(C)]
-pub struct Header {
-    pub refused: Refused,
-    pub fields: header::Header,
-}
-
-// The head of a page whose cells are all accepted.
-#[repr(C)]
-pub struct Page {
-    pub refused: Refused,
-    pub head: Head,
 }

@@ -5,15 +5,15 @@ ghost use lib.ListN.{length};
 ghost use lib.Seq.{sets};
 ghost use Rattle.serial.specs.Serial.{lengthOf, widthOf};
 ghost use Rattle.serial.specs.declared.Width.the-variants.{Bytes};
-ghost use Rattle.exports.specs.Turns.{integerOf};
-ghost use Rattle.exports.specs.Batch.{wordsOf, runFrom, filledBy, over};
-ghost use Rattle.exports.specs.Whole.{Whole, shapeOf, longFrom, valueBy, bytesIn};
-use crate::batch;
-use crate::turns;
-use crate::turns::empty_value;
-use crate::turns::integer_of;
-use crate::turns::long_of;
-use crate::turns::real_of;
+ghost use Rattle.exports.specs.Shown.{integerOf};
+ghost use Rattle.exports.specs.Run.{wordsOf, runFrom, filledBy, over};
+ghost use Rattle.exports.specs.Whole.{Whole, mannerOf, longFrom, valueBy, bytesIn};
+use crate::rows::filled_of;
+use crate::run;
+use crate::shown::empty_value;
+use crate::shown::integer_of;
+use crate::shown::long_of;
+use crate::shown::real_of;
 use crate::types::Filled;
 use crate::types::Value;
 use columns::Cursor;
@@ -28,7 +28,7 @@ use fields::be_u64;
 use reading::Reading;
 
 // How the readings differ in values: the widths of integers, what type 9 shows, and the first type that shows bytes.
-pub struct Shape {
+pub struct Manner {
     pub i8: u8,
     pub i16: u8,
     pub i32: u8,
@@ -37,11 +37,11 @@ pub struct Shape {
     pub least: u64,
 }
 
-fn shape_of(reading: Reading) -> Shape
-    ensures { λ r. ⌜ r ≡ shapeOf reading ⌝ }
+fn manner_of(reading: Reading) -> Manner
+    ensures { λ r. ⌜ r ≡ mannerOf reading ⌝ }
 {
     match reading {
-        Reading::Old => Shape {
+        Reading::Old => Manner {
             i8: 8,
             i16: 16,
             i32: 32,
@@ -49,7 +49,7 @@ fn shape_of(reading: Reading) -> Shape
             one: 0,
             least: 14,
         },
-        Reading::File => Shape {
+        Reading::File => Manner {
             i8: 0,
             i16: 0,
             i32: 0,
@@ -65,7 +65,7 @@ fn put_at(table: &mut [i64], place: usize, value: Value, end: usize) -> usize
     requires { ⌜ place + 5 ≤ length (now table) ⌝ }
     ensures { λ r. ⌜ (r ≡ end) × (now (table .exit) ≡ sets (now (table .entry)) place (wordsOf value)) ⌝ }
 {
-    batch::put(table, place, value);
+    run::put(table, place, value);
     end
 }
 
@@ -78,16 +78,16 @@ fn put_integer(table: &mut [i64], place: usize, width: u8, integer: i64, end: us
 }
 
 // Stores a text or a blob, and answers where it ends.
-fn put_long(table: &mut [i64], place: usize, least: u64, kind: u64, at: usize) -> usize
-    requires { ⌜ (place + 5 ≤ length (now table)) × (12 ≤ kind) × (at + lengthOf kind < 2 ^ 64) ⌝ }
-    ensures { λ r. ⌜ (r ≡ at + lengthOf kind) × (now (table .exit) ≡ sets (now (table .entry)) place (wordsOf (longFrom least kind at))) ⌝ }
+fn put_long(table: &mut [i64], place: usize, least: u64, serial: u64, at: usize) -> usize
+    requires { ⌜ (place + 5 ≤ length (now table)) × (12 ≤ serial) × (at + lengthOf serial < 2 ^ 64) ⌝ }
+    ensures { λ r. ⌜ (r ≡ at + lengthOf serial) × (now (table .exit) ≡ sets (now (table .entry)) place (wordsOf (longFrom least serial at))) ⌝ }
 {
-    let len = ((kind - 12) / 2) as usize;
+    let len = ((serial - 12) / 2) as usize;
     let end = at + len;
-    if kind < least {
+    if serial < least {
         return put_at(table, place, empty_value(), end);
     }
-    if kind % 2 == 0 {
+    if serial % 2 == 0 {
         return put_at(table, place, long_of(4, at, len), end);
     }
     put_at(table, place, long_of(3, at, len), end)
@@ -98,26 +98,26 @@ fn put_value(
     part: &[u8],
     table: &mut [i64],
     place: usize,
-    shape: Shape,
-    kind: u64,
+    manner: Manner,
+    serial: u64,
     at: usize,
 ) -> usize
-    requires { ⌜ (place + 5 ≤ length (now table)) × (widthOf kind ≡ Bytes (bytesIn (widthOf kind))) × (at + bytesIn (widthOf kind) < 2 ^ 64) ⌝ }
-    ensures { λ r. ⌜ (r ≡ at + bytesIn (widthOf kind))
-        × (now (table .exit) ≡ sets (now (table .entry)) place (wordsOf (valueBy shape kind at (now (part .entry))))) ⌝ }
+    requires { ⌜ (place + 5 ≤ length (now table)) × (widthOf serial ≡ Bytes (bytesIn (widthOf serial))) × (at + bytesIn (widthOf serial) < 2 ^ 64) ⌝ }
+    ensures { λ r. ⌜ (r ≡ at + bytesIn (widthOf serial))
+        × (now (table .exit) ≡ sets (now (table .entry)) place (wordsOf (valueBy manner serial at (now (part .entry))))) ⌝ }
 {
-    match kind {
+    match serial {
         0 => put_at(table, place, empty_value(), at),
-        1 => put_integer(table, place, shape.i8, be_i8(part) as i64, at + 1),
-        2 => put_integer(table, place, shape.i16, be_i16(part) as i64, at + 2),
-        3 => put_integer(table, place, shape.i32, be_i24(part) as i64, at + 3),
-        4 => put_integer(table, place, shape.i32, be_i32(part) as i64, at + 4),
-        5 => put_integer(table, place, shape.i64, be_i48(part), at + 6),
-        6 => put_integer(table, place, shape.i64, be_i64(part), at + 8),
+        1 => put_integer(table, place, manner.i8, be_i8(part) as i64, at + 1),
+        2 => put_integer(table, place, manner.i16, be_i16(part) as i64, at + 2),
+        3 => put_integer(table, place, manner.i32, be_i24(part) as i64, at + 3),
+        4 => put_integer(table, place, manner.i32, be_i32(part) as i64, at + 4),
+        5 => put_integer(table, place, manner.i64, be_i48(part), at + 6),
+        6 => put_integer(table, place, manner.i64, be_i64(part), at + 8),
         7 => put_at(table, place, real_of(be_u64(part)), at + 8),
-        8 => put_integer(table, place, shape.i8, 0, at),
-        9 => put_integer(table, place, shape.i8, shape.one, at),
-        _ => put_long(table, place, shape.least, kind, at),
+        8 => put_integer(table, place, manner.i8, 0, at),
+        9 => put_integer(table, place, manner.i8, manner.one, at),
+        _ => put_long(table, place, manner.least, serial, at),
     }
 }
 
@@ -128,17 +128,17 @@ pub fn fill(db: &[u8], first: Cursor, columns: usize, table: &mut [i64]) -> Fill
         × (now (table .exit) ≡ over (runFrom (length (now (table .entry)) / 5) first (now (db .entry))) (now (table .entry))) ⌝ }
 {
     let reading = first.reading;
-    let shape = shape_of(reading);
-    let places = batch::places_of(table.len());
+    let manner = manner_of(reading);
+    let places = run::places_of(table.len());
     let most = if columns < places { columns } else { places };
     let mut here = first;
     let mut n: usize = 0;
     while n < most {
         let type_at = here.at;
-        let kind = db[type_at] as u64;
-        if kind < 128 {
+        let serial = db[type_at] as u64;
+        if serial < 128 {
             let at = here.value;
-            let end = put_value(&db[at..], table, 5 * n, shape, kind, at);
+            let end = put_value(&db[at..], table, 5 * n, manner, serial, at);
             let next = Cursor {
                 reading,
                 at: here.at + 1,
@@ -148,14 +148,19 @@ pub fn fill(db: &[u8], first: Cursor, columns: usize, table: &mut [i64]) -> Fill
             };
             here = next;
         } else {
-            let reached = columns::step(db, here);
-            let Stepped::Column { kind: t, at, next } = reached else {
-                return turns::filled_of(n, here);
+            let reached = here.step(db);
+            let Stepped::Column {
+                serial: t,
+                at,
+                next,
+            } = reached
+            else {
+                return filled_of(n, here);
             };
-            batch::put(table, 5 * n, batch::value_at(db, reading, t, at));
+            run::put(table, 5 * n, run::value_at(db, reading, t, at));
             here = next;
         }
         n += 1;
     }
-    turns::filled_of(n, here)
+    filled_of(n, here)
 }

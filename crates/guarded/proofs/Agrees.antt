@@ -1,6 +1,6 @@
 -- The theorem: what the guarded reading shows, and when it refuses.
 use Prim.Native.Nat.{ℕ, _-_}
-use mathlib.Core.Path.{_≡_, sym, ap, _∙_}
+use mathlib.Core.Path.{_≡_, refl, sym, ap, _∙_}
 use mathlib.Core.List.{List}
 use lib.IntN.{ℤ}
 use Rattle.laws.proofs.Never.{never}
@@ -8,64 +8,68 @@ use Rattle.answers.specs.declared.Refusal.{Refusal}
 use Rattle.answers.specs.declared.Refusal.the-variants.{InCell}
 use Rattle.answers.specs.declared.Fault.the-variants as fa
 use Rattle.answers.specs.declared.Mark.{Mark}
-use Rattle.cell.specs.declared.Cell as dc
-use Rattle.page.specs.declared.Open.{Open}
-use Rattle.page.specs.declared.Located.{Located}
-use Rattle.page.specs.declared.Located.the-variants as lo
-use Rattle.page.specs.Place.{fileKey}
-use Rattle.page.specs.Entry.{rowNumber}
-use Rattle.page.specs.Located as file
+use Rattle.answers.specs.Answer.{Answer, refused, shown}
+use Rattle.record.specs.Types.{count}
 use Rattle.marks.specs.declared.Marking.{Marking}
 use Rattle.marks.specs.declared.Marking.the-variants.{Clear, By}
-use Rattle.guarded.specs.Guarded.{unmarked, guardedBy, locatedOf}
+use Rattle.place.specs.declared.Page.{Page}
+use Rattle.place.specs.Place.{filePage}
+use Rattle.cells.specs.Located as file
+use Rattle.cells.specs.Located.{Located, rowNumber}
+use Rattle.cells.proofs.Laws.{located-open}
+use Rattle.guarded.specs.Guarded.{unmarked, locatedOf}
 use Rattle.guarded.specs.Shows.{Meaning, none, row, oldShows, fileShows, guardedShows}
 use Rattle.guarded.specs.Agreement.{GuardedAgrees, GuardedRefuses, markBy}
-use Rattle.guarded.proofs.Pages.{asOld}
-use Rattle.guarded.proofs.Cells.{old-shown}
+use Rattle.guarded.proofs.Cells.{its-page, oldLocated, old-shown}
 use Rattle.guarded.proofs.Columns.{same-value}
-use Rattle.guarded.proofs.Guard.{Guarded, guarded, on-leaf}
-use Rattle.guarded.proofs.Rows.{oldValue, fileValue, oldRow, fileRow, old-is, file-is, guarded-is, Shown, shown, listed-same}
+use Rattle.guarded.proofs.Guard.{Opens, guardedBy, guarded, on-leaf}
+use Rattle.guarded.proofs.Rows.{oldValue, fileValue, oldRow, fileRow, old-is, file-is, guarded-is, row-shown, listed-same}
 
 -- a cell that the guarded reading locates has the same row in the other two
-module _ (page i : ℕ) (db : List ℕ) {o : Open} {p : ℕ} {c : dc.Cell} (g : Guarded page i db o p c) where
-  old-row : oldShows (page - 1) i db ≡ fileRow db (lo.Shown o p c)
+module _ (page i : ℕ) (db : List ℕ) {l : Located} (g : Opens page i db l) where
+  old-row : oldShows (page - 1) i db ≡ fileRow db (shown l)
   old-row =
-      old-is (page - 1) i db ∙ ap (oldRow db) (old-shown page i db (g .located) (g .leaf) (g .clear))
-      ∙ ap (row (rowNumber (c .row .value)))
-      (listed-same (c .columns) (oldValue db (lo.Shown (asOld o) p c)) (fileValue db (lo.Shown o p c))
-      (same-value page i db (g .located) (g .leaf) (g .clear)))
+      let a = g .opened in
+      let b = g .is in
+      old-is (page - 1) i db ∙ ap (oldRow db) (old-shown page i db a (b .located) (b .leaf) (b .clear))
+      ∙ ap (row (rowNumber (l .cell .row .value)))
+      (listed-same (count (l .cell .types)) (oldValue db (shown (oldLocated page i db a (b .located) (b .leaf)))) (fileValue db (shown l))
+      (same-value page i db a (b .located) (b .leaf) (b .clear)))
 
-  file-row : fileShows page i db ≡ fileRow db (lo.Shown o p c)
-  file-row = file-is page i db ∙ ap (fileRow db) (g .located)
+  file-row : fileShows page i db ≡ fileRow db (shown l)
+  file-row = file-is page i db ∙ ap (fileRow db) (located-open (filePage page) i db (g .opened) ∙ g .is .located)
 
 pub guarded-agrees : GuardedAgrees
 guarded-agrees page i db number values e =
     let located = locatedOf page i db in
-    let r = shown located (fileValue db located) (sym (guarded-is page i db) ∙ e) in
+    let r = row-shown located (fileValue db located) (sym (guarded-is page i db) ∙ e) in
     let g = guarded page i db (r .is) in
-    let f : fileRow db (lo.Shown (r .o) (r .p) (r .c)) ≡ row number values = ap (fileRow db) (sym (r .is)) ∙ sym (guarded-is page i db) ∙ e in
+    let f : fileRow db (shown (r .l)) ≡ row number values = ap (fileRow db) (sym (r .is)) ∙ sym (guarded-is page i db) ∙ e in
     (old-row page i db g ∙ f, file-row page i db g ∙ f)
 
 -- WHEN IT REFUSES, by the cell x that the file reading locates
-module _ (i : ℕ) (db : List ℕ) where
-  as-file : (x : Located) {refusal : Refusal} → fileRow db x ≡ none refusal → fileRow db (guardedBy i db x) ≡ none refusal
-  as-file (lo.Refused refusal) e = e
-  as-file (lo.Shown o p c) e = never cc
+module _ (page i : ℕ) (db : List ℕ) where
+  as-file : (x : Answer Refusal Located) {refusal : Refusal} → fileRow db x ≡ none refusal → fileRow db (guardedBy i x) ≡ none refusal
+  as-file (refused refusal) e = e
+  as-file (shown l) e = never cc
 
-  by-mark : (x : Located) {mark : Mark} → markBy db x ≡ By mark → fileRow db (guardedBy i db x) ≡ none (InCell i (fa.Marked mark))
-  by-mark (lo.Refused refusal) e = never cc
-  by-mark (lo.Shown o p c) e = ap (λ (m : Marking). fileRow db (unmarked i o p c m)) e
+  by-mark : (x : Answer Refusal Located) {mark : Mark} → file.locatedOf (filePage page) i db ≡ x → markBy x ≡ By mark
+      → fileRow db (guardedBy i x) ≡ none (InCell page i (fa.Marked mark))
+  by-mark (refused refusal) q e = never cc
+  by-mark (shown l) {mark} q e =
+      ap (λ (m : Marking). fileRow db (unmarked i l m)) e
+      ∙ ap (λ (p : Page). none (InCell (p .number) i (fa.Marked mark))) (its-page (filePage page) i db q)
 
-  let-through : (x : Located) {number : ℤ} {values : List Meaning} → fileRow db x ≡ row number values → markBy db x ≡ Clear
-      → fileRow db (guardedBy i db x) ≡ row number values
-  let-through (lo.Refused refusal) e m = never cc
-  let-through (lo.Shown o p c) e m = ap (λ (m : Marking). fileRow db (unmarked i o p c m)) m ∙ e
+  let-through : (x : Answer Refusal Located) {number : ℤ} {values : List Meaning} → fileRow db x ≡ row number values → markBy x ≡ Clear
+      → fileRow db (guardedBy i x) ≡ row number values
+  let-through (refused refusal) e m = never cc
+  let-through (shown l) e m = ap (λ (m : Marking). fileRow db (unmarked i l m)) m ∙ e
 
 pub guarded-refuses : GuardedRefuses
-guarded-refuses page i db leaf =
-    let located = file.locatedOf (fileKey page) i db in
-    let is : guardedShows page i db ≡ fileRow db (guardedBy i db located) = guarded-is page i db ∙ ap (fileRow db) (on-leaf page i db leaf) in (
-      λ refusal e. is ∙ as-file i db located (sym (file-is page i db) ∙ e),
-      λ mark e. is ∙ by-mark i db located e,
-      λ number values e m. is ∙ let-through i db located (sym (file-is page i db) ∙ e) m,
+guarded-refuses page i db s q k =
+    let located = file.locatedOf (filePage page) i db in
+    let is : guardedShows page i db ≡ fileRow db (guardedBy i located) = guarded-is page i db ∙ ap (fileRow db) (on-leaf page i db q k) in (
+      λ refusal e. is ∙ as-file page i db located (sym (file-is page i db) ∙ e),
+      λ mark e. is ∙ by-mark page i db located refl e,
+      λ number values e m. is ∙ let-through page i db located (sym (file-is page i db) ∙ e) m,
     )

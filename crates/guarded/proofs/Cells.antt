@@ -1,107 +1,121 @@
 -- A cell of a table leaf that the file reading locates, in the old reading: the same pointer, and behind it the same bytes and
 -- some more.
 use Prim.Native.Nat.{ℕ, _-_, _≤_}
-use mathlib.Core.Path.{_≡_, sym, ap, _∙_}
+use mathlib.Core.Path.{_≡_, refl, sym, subst, _∙_}
 use mathlib.Core.List.{List, _++_}
 use mathlib.Core.Bool.{false}
 use native.Mathlib.Omega.{arith}
 use lib.Dec.{ltb, leb}
 use lib.ListN.{length, drop, length-drop, take-append-drop}
 use lib.Seq.{take-all}
-use borrow.Author.Tests.{ltb-false, lt-ltb, le-ltb}
-use Rattle.reading.specs.declared.Reading.the-variants.{Old as old, File as file}
-use Rattle.cell.specs.declared.Kind.the-variants.{LeafTable}
-use Rattle.cell.specs.declared.Cell as dc
-use Rattle.cell.specs.declared.CellAnswer.the-variants as ca
-use Rattle.cell.specs.Cell.{Cell, cell, numOf, cellOf, answerOf}
-use Rattle.columns.specs.Columns.{typesAt}
-use Rattle.page.specs.declared.Open.{Open}
-use Rattle.page.specs.declared.OpenAnswer.the-variants as oa
-use Rattle.page.specs.declared.Located.the-variants as lo
-use Rattle.page.specs.Place.{oldKey, fileKey, pageAt}
-use Rattle.page.specs.Open.{openOf, pointersEnd}
-use Rattle.page.specs.Entry.{outside, partAt, cellIn}
-use Rattle.page.specs.Located.{locatedBy, locatedOf}
-use Rattle.page.proofs.Laws.{page-length}
-use Rattle.page.proofs.Opened.{Opened, open-fits}
-use Rattle.page.proofs.Found.{Found, found}
-use Rattle.marks.specs.declared.Marking.the-variants.{Clear}
+use borrow.Author.Tests.{ltb-false, le-ltb}
 use Rattle.laws.proofs.Bools.{neither}
-use Rattle.marks.proofs.Same.{same-cell}
-use Rattle.row.specs.Row.{cursorIn}
-use Rattle.row.proofs.Placed.{placed}
-use Rattle.guarded.specs.Guarded.{markIn}
+use Rattle.reading.specs.declared.Reading.the-variants.{Old as old, File as file}
+use Rattle.answers.specs.Answer.{shown}
+use Rattle.cell.specs.declared.Kind.the-variants.{LeafTable}
+use Rattle.cell.specs.Cell.{cellOf}
+use Rattle.marks.specs.declared.Marking.the-variants.{Clear}
+use Rattle.marks.specs.Marks.{markOf}
+use Rattle.marks.proofs.Same.{withPayload, same-cell}
+use Rattle.place.specs.declared.Page.{Page}
+use Rattle.place.specs.Place.{oldPage, filePage, pageAt}
+use Rattle.place.proofs.Laws.{page-length}
+use Rattle.page.specs.declared.Open.{Open}
+use Rattle.page.specs.Kinds.{pointersEnd}
+use Rattle.page.specs.Open.{openOf}
+use Rattle.page.proofs.Opened.{Opened}
+use Rattle.page.proofs.Sites.{open-page}
+use Rattle.cells.specs.Pointers.{outside, partAt}
+use Rattle.cells.specs.Located.{Located, locatedIn, locatedOf}
+use Rattle.cells.proofs.Laws.{Held, held, held-again, located-open, steps}
 use Rattle.guarded.proofs.Pages.{asOld, old-opens}
 
-module _ (n i : ℕ) (db : List ℕ) {o : Open} {p : ℕ} {c : dc.Cell} (located : locatedOf (fileKey n) i db ≡ lo.Shown o p c)
+-- a located cell is on the page that was asked for
+pub its-page : (page : Page) (i : ℕ) (db : List ℕ) {l : Located} → locatedOf page i db ≡ shown l → l .opened .page ≡ page
+its-page page i db e = let s = steps page i db e in rw (held (s .o) i db (s .second) .opened) (open-page page db (s .first))
+
+module _ (n i : ℕ) (db : List ℕ) {o : Open} {l : Located} (opened : openOf (filePage n) db ≡ shown o) (located : locatedIn o i db ≡ shown l)
     (leaf : o .kind ≡ LeafTable) where
-  there : Found (openOf (fileKey n) db) i db o p c
-  there = found (fileKey n) i db located
+  there : Held o i db l
+  there = held o i db located
 
-  old-open : openOf (oldKey (n - 1)) db ≡ oa.Shown (asOld o)
-  old-open = old-opens n db o (there .opened) .0
+  pub by-file : o .page ≡ filePage n
+  by-file = open-page (filePage n) db opened
 
-  pub by-file : o .reading ≡ file
-  by-file = old-opens n db o (there .opened) .1
+  old-open : openOf (oldPage (n - 1)) db ≡ shown (asOld n o)
+  old-open = old-opens n db opened
 
   abbrev page : List ℕ
   page = pageAt (o .at) (o .size) db
 
-  fits : Opened o db
-  fits = open-fits (fileKey n) db o (there .opened)
-
   page-is : length page ≡ o .size
-  page-is = page-length (o .at) (o .size) db (fits .there)
+  page-is = page-length (o .at) (o .size) db (there .lies .there)
 
-  short : o .end ≤ o .size
-  short = rw page-is at (fits .fits .within)
+  old-lies : Opened (asOld n o) db
+  old-lies =
+      record { there = there .lies .there; short = omega arith; pointers = omega (arith, there .lies .pointers, there .lies .short) }
 
   -- THE POINTER
 
-  behind-pointers : pointersEnd (o .from) (o .kind) (o .cells) ≤ p
+  behind-pointers : pointersEnd (o .from) (o .kind) (o .cells) ≤ l .pointer
   behind-pointers =
       let pointers = pointersEnd (o .from) (o .kind) (o .cells) in
-      ltb-false p pointers (neither (ltb p pointers) (leb (o .end) p) (rw by-file at (there .held .allowed)) .0)
+      let allowed = subst (λ (p : Page). outside (p .reading) o (l .pointer) ≡ false) by-file (there .allowed) in
+      ltb-false (l .pointer) pointers (neither (ltb (l .pointer) pointers) (leb (o .end) (l .pointer)) allowed .0)
 
-  allowed : outside old (asOld o) p ≡ false
-  allowed =
-      rw (le-ltb (o .size) p (omega (arith, short, there .held .within)), le-ltb p (o .from) (omega (arith, behind-pointers)))
+  old-within : l .pointer ≤ o .size
+  old-within = omega (arith, there .lies .short, there .within)
+
+  old-allowed : outside old (asOld n o) (l .pointer) ≡ false
+  old-allowed = rw (le-ltb (o .size) (l .pointer) old-within, le-ltb (l .pointer) (o .from) (omega (arith, behind-pointers)))
 
   -- THE BYTES
 
   abbrev pub part : List ℕ
-  part = partAt o p page
+  part = partAt o (l .pointer) page
 
   abbrev pub more : List ℕ
-  more = drop (o .end - p) (drop p page)
+  more = drop (o .end - l .pointer) (drop (l .pointer) page)
 
-  part-on : partAt (asOld o) p page ≡ part ++ more
+  part-on : partAt (asOld n o) (l .pointer) page ≡ part ++ more
   part-on =
-      take-all (o .size - p) (drop p page) (rw (length-drop, page-is) (omega arith)) ∙ sym (take-append-drop (o .end - p) (drop p page))
+      take-all (o .size - l .pointer) (drop (l .pointer) page) (rw (length-drop, page-is) (omega arith))
+      ∙ sym (take-append-drop (o .end - l .pointer) (drop (l .pointer) page))
 
   -- THE CELL
 
-  pub old-bytes : cellOf old (o .kind) (o .size) (partAt (asOld o) p page) ≡ cellOf old LeafTable (o .size) (part ++ more)
+  pub file-cell : cellOf file LeafTable (o .end) part ≡ shown (l .cell)
+  file-cell =
+      let e : cellOf file LeafTable (o .end) part ≡ cellOf (o .page .reading) (o .kind) (o .end) part = rw (by-file, leaf) in e ∙ there .cell
+
+  old-bytes : cellOf old (o .kind) (o .size) (partAt (asOld n o) (l .pointer) page) ≡ cellOf old LeafTable (o .size) (part ++ more)
   old-bytes = rw (part-on, leaf)
 
-  pub old-located : locatedOf (oldKey (n - 1)) i db ≡ locatedBy i (asOld o) p (answerOf (cellOf old LeafTable (o .size) (part ++ more)))
-  unfolding locatedOf cellIn
-  old-located = rw (old-open, lt-ltb i (o .cells) (there .below), there .pointer, allowed, old-bytes)
+  -- the cell that the old reading locates, if it does
+  pub old-cell : {l′ : Located} → locatedOf (oldPage (n - 1)) i db ≡ shown l′ → cellOf old LeafTable (o .size) (part ++ more) ≡ shown (l′ .cell)
+  old-cell {l′} e =
+      let h = held (asOld n o) i db (sym (located-open (oldPage (n - 1)) i db old-open) ∙ e) in
+      let q : l′ .pointer ≡ l .pointer = h .pointer ∙ sym (there .pointer) in
+      sym old-bytes ∙ subst (λ (p : ℕ). cellOf old (o .kind) (o .size) (partAt (asOld n o) p page) ≡ shown (l′ .cell)) q (h .cell)
 
-  -- the cell, with its types
-  abbrev whole : Cell
-  whole = cell (c .child) (numOf (c .size)) (numOf (c .row)) (numOf (c .header)) (typesAt (cursorIn o p c) db)
+  -- where there is no mark: the same cell, with all that stands behind its numbers as its payload
+  abbrev pub oldLocated : Located
+  oldLocated =
+      record {
+        opened = asOld n o;
+        pointer = l .pointer;
+        cell = withPayload (length (drop (l .cell .numbers .length) (part ++ more))) (l .cell);
+      }
 
-  pub cell-is : cellOf file LeafTable (o .end) part ≡ whole
-  cell-is =
-      let e : cellOf file LeafTable (o .end) part ≡ cellOf (o .reading) (o .kind) (o .end) part = rw (by-file, leaf) in
-      e ∙ placed (fileKey n) i db located .is
-
-  module _ (clear : markIn o p c db ≡ Clear) where
-    pub old-cell : cellOf old LeafTable (o .size) (part ++ more) ≡ whole
-    old-cell = same-cell (o .end) (o .size) part more cell-is clear
-
-    pub old-shown : locatedOf (oldKey (n - 1)) i db ≡ lo.Shown (asOld o) p c
-    old-shown =
-        let answer : answerOf (cellOf file LeafTable (o .end) part) ≡ ca.Shown c = rw (by-file, leaf) at (there .held .shown) in
-        old-located ∙ ap (locatedBy i (asOld o) p) (ap answerOf (old-cell ∙ sym cell-is) ∙ answer)
+  pub old-shown : markOf (l .cell) ≡ Clear → locatedOf (oldPage (n - 1)) i db ≡ shown oldLocated
+  old-shown clear =
+      located-open (oldPage (n - 1)) i db old-open
+      ∙ held-again (asOld n o) i db (record {
+        lies = old-lies;
+        below = there .below;
+        opened = refl;
+        pointer = there .pointer;
+        allowed = old-allowed;
+        within = old-within;
+        cell = old-bytes ∙ same-cell (o .end) (o .size) part more file-cell clear;
+      })

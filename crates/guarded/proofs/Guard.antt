@@ -1,71 +1,168 @@
--- What the guarded reading locates: the cell that the file reading locates on a table leaf, where its record has no mark.
+-- What the guarded reading locates: the cell that the page's reading locates on a table leaf, where its record has no mark.
 use Prim.Native.Nat.{ℕ}
-use mathlib.Core.Path.{_≡_, refl, sym, ap, _∙_}
+use mathlib.Core.Path.{_≡_, refl, sym, ap, subst, _∙_}
 use mathlib.Core.List.{List}
+use mathlib.Core.Bool.{Bool, true, false}
+use Rattle.laws.specs.Pick.{pick}
 use Rattle.laws.proofs.Never.{never}
+use Rattle.answers.specs.declared.Reason.the-variants as re
+use Rattle.answers.specs.declared.Refusal.{Refusal}
+use Rattle.answers.specs.declared.Refusal.the-variants.{InCell}
+use Rattle.answers.specs.declared.Fault.the-variants as fa
+use Rattle.answers.specs.Answer.{Answer, refused, shown, _>>=_}
+use Rattle.cell.specs.declared.Kind.{Kind}
 use Rattle.cell.specs.declared.Kind.the-variants.{InteriorIndex, InteriorTable, LeafIndex, LeafTable}
-use Rattle.cell.specs.declared.Cell as dc
-use Rattle.page.specs.declared.KindAnswer.{KindAnswer}
-use Rattle.page.specs.declared.KindAnswer.the-variants.{Known, Unknown}
-use Rattle.page.specs.declared.Open.{Open}
-use Rattle.page.specs.declared.OpenAnswer.the-variants as oa
-use Rattle.page.specs.declared.Located.{Located}
-use Rattle.page.specs.declared.Located.the-variants as lo
-use Rattle.page.specs.Place.{fileKey}
-use Rattle.page.specs.Open as page
-use Rattle.page.specs.Open.{kindIn}
-use Rattle.page.specs.Located as page-located
-use Rattle.page.specs.Located.{openedThen}
-use Rattle.page.proofs.Found.{opened-found}
-use Rattle.page.proofs.Named.{open-kind}
 use Rattle.marks.specs.declared.Marking.{Marking}
 use Rattle.marks.specs.declared.Marking.the-variants.{Clear, By}
-use Rattle.guarded.specs.Guarded.{leafOnly, openOf, markIn, unmarked, guardedBy, locatedOf}
+use Rattle.marks.specs.Marks.{markOf}
+use Rattle.place.specs.Place.{filePage}
+use Rattle.page.specs.declared.Site.{Site}
+use Rattle.page.specs.declared.Open.{Open}
+use Rattle.page.specs.Open as page
+use Rattle.page.specs.Open.{onPage, siteOf, openFrom}
+use Rattle.page.proofs.Sites.{opening}
+use Rattle.cells.specs.Located as cells
+use Rattle.cells.specs.Located.{Located}
+use Rattle.cells.proofs.Laws.{held, located-open, located-unopened}
+use Rattle.guarded.specs.Guarded.{isLeafTable, leafOnly, openOf, unmarked, locatedIn, locatedOf}
+use Rattle.guarded.specs.Agreement.{EveryOpenGuarded}
+use Rattle.guarded.proofs.Pages.{open-site}
 
--- on a table leaf, the file reading's cell by its mark
-pub on-leaf : (n i : ℕ) (db : List ℕ) → kindIn (fileKey n) db ≡ Known LeafTable
-    → locatedOf n i db ≡ guardedBy i db (page-located.locatedOf (fileKey n) i db)
-unfolding locatedOf openOf page-located.locatedOf
-on-leaf n i db e = rw e
+-- THE KIND
 
--- a cell that was let through is the one that was located, and has no mark
-module _ (i : ℕ) (db : List ℕ) {o : Open} {p : ℕ} {c : dc.Cell} where
-  let-through : (x : Located) → guardedBy i db x ≡ lo.Shown o p c → (x ≡ lo.Shown o p c) × (markIn o p c db ≡ Clear)
-  let-through (lo.Refused refusal) e = never cc
-  let-through (lo.Shown o′ p′ c′) e = go (markIn o′ p′ c′ db) refl e
+leaf-kind : (k : Kind) → isLeafTable k ≡ true → k ≡ LeafTable
+leaf-kind InteriorIndex e = never cc
+leaf-kind InteriorTable e = never cc
+leaf-kind LeafIndex e = never cc
+leaf-kind LeafTable e = refl
+
+other-kind : (k : Kind) → (k ≡ LeafTable → ⊥) → isLeafTable k ≡ false
+other-kind InteriorIndex n = refl
+other-kind InteriorTable n = refl
+other-kind LeafIndex n = refl
+other-kind LeafTable n = absurd (n refl)
+
+-- A PAGE
+
+module _ (n : ℕ) (db : List ℕ) where
+  pub site-refused : {refusal : Refusal} → siteOf (filePage n) db ≡ refused refusal → openOf n db ≡ refused refusal
+  unfolding openOf
+  site-refused e = rw e
+
+  module _ {s : Site} (e : siteOf (filePage n) db ≡ shown s) where
+    pub site-other : isLeafTable (s .kind) ≡ false → openOf n db ≡ onPage (s .page) re.KindUnfit
+    unfolding openOf
+    site-other t = rw (e, t)
+
+    pub site-leaf : isLeafTable (s .kind) ≡ true → openOf n db ≡ openFrom s db
+    unfolding openOf
+    site-leaf t = rw (e, t)
+
+  -- one that is opened is a table leaf, as the file reading opens it
+  pub leaf-opened : {o : Open} → openOf n db ≡ shown o → (page.openOf (filePage n) db ≡ shown o) × (o .kind ≡ LeafTable)
+  unfolding openOf
+  leaf-opened {o} e = by-site (siteOf (filePage n) db) refl e
     where
-      go : (m : Marking) → markIn o′ p′ c′ db ≡ m → unmarked i o′ p′ c′ m ≡ lo.Shown o p c
-          → (lo.Shown o′ p′ c′ ≡ lo.Shown o p c) × (markIn o p c db ≡ Clear)
-      go (By mark) k d = never cc
-      go Clear k d =
-          let a : o′ ≡ o = cc in
-          let b : p′ ≡ p = cc in
-          let f : c′ ≡ c = cc in
-          (d, rw (a, b, f) at k)
+      by-kind : (s : Site) → siteOf (filePage n) db ≡ shown s → (b : Bool) → isLeafTable (s .kind) ≡ b
+          → (pick b (shown s) (onPage (s .page) re.KindUnfit) >>= (λ leaf. openFrom leaf db)) ≡ shown o
+          → (page.openOf (filePage n) db ≡ shown o) × (o .kind ≡ LeafTable)
+      by-kind s i false t d = never cc
+      by-kind s i true t d = (open-site (filePage n) db i ∙ d, rw (opening s db d .is) (leaf-kind (s .kind) t))
 
--- a page that is opened is a table leaf, as the file reading opens it
-pub leaf-opened : (n : ℕ) (db : List ℕ) (o : Open) → openOf n db ≡ oa.Shown o → (page.openOf (fileKey n) db ≡ oa.Shown o) × (o .kind ≡ LeafTable)
-unfolding openOf
-leaf-opened n db o e = go (kindIn (fileKey n) db) refl e
-  where
-    go : (k : KindAnswer) → kindIn (fileKey n) db ≡ k → leafOnly k (page.openOf (fileKey n) db) ≡ oa.Shown o
-        → (page.openOf (fileKey n) db ≡ oa.Shown o) × (o .kind ≡ LeafTable)
-    go Unknown i d = let k = sym i ∙ open-kind (fileKey n) db o d in never cc
-    go (Known InteriorIndex) i d = never cc
-    go (Known InteriorTable) i d = never cc
-    go (Known LeafIndex) i d = never cc
-    go (Known LeafTable) i d = let k = sym i ∙ open-kind (fileKey n) db o d in (d, cc)
+      by-site : (x : Answer Refusal Site) → siteOf (filePage n) db ≡ x
+          → (x >>= (λ site. leafOnly (site .page) (site .kind) site >>= (λ leaf. openFrom leaf db))) ≡ shown o
+          → (page.openOf (filePage n) db ≡ shown o) × (o .kind ≡ LeafTable)
+      by-site (refused refusal) i d = never cc
+      by-site (shown s) i d = by-kind s i (isLeafTable (s .kind)) refl d
+
+-- A CELL OF IT
+
+-- a located cell by its mark
+abbrev pub guardedBy : ℕ → Answer Refusal Located → Answer Refusal Located
+guardedBy i x = x >>= (λ l. unmarked i l (markOf (l .cell)))
 
 -- what is so of a cell that the guarded reading locates
-pub record Guarded (n i : ℕ) (db : List ℕ) (o : Open) (p : ℕ) (c : dc.Cell) : Type 0 where
-  pub located : page-located.locatedOf (fileKey n) i db ≡ lo.Shown o p c
+pub record Guarded (o : Open) (i : ℕ) (db : List ℕ) (l : Located) : Type 0 where
   pub leaf : o .kind ≡ LeafTable
-  pub clear : markIn o p c db ≡ Clear
+  pub located : cells.locatedIn o i db ≡ shown l
+  pub clear : markOf (l .cell) ≡ Clear
 
-pub guarded : (n i : ℕ) (db : List ℕ) {o : Open} {p : ℕ} {c : dc.Cell} → locatedOf n i db ≡ lo.Shown o p c → Guarded n i db o p c
-unfolding locatedOf page-located.locatedOf
-guarded n i db {o} {p} {c} e =
-    let t = let-through i db (openedThen i db (openOf n db)) e in
-    let f = opened-found i db o p c (openOf n db) (t .0) .opened in
-    let l = leaf-opened n db o f in
-    record { located = ap (openedThen i db) (l .0 ∙ sym f) ∙ t .0; leaf = l .1; clear = t .1 }
+module _ (o : Open) (i : ℕ) (db : List ℕ) where
+  pub other-in : isLeafTable (o .kind) ≡ false → locatedIn o i db ≡ onPage (o .page) re.KindUnfit
+  unfolding locatedIn
+  other-in t = rw t
+
+  pub leaf-in : isLeafTable (o .kind) ≡ true → locatedIn o i db ≡ guardedBy i (cells.locatedIn o i db)
+  unfolding locatedIn
+  leaf-in t = rw t
+
+  pub guarded-in : {l : Located} → locatedIn o i db ≡ shown l → Guarded o i db l
+  unfolding locatedIn
+  guarded-in {l} e = by-kind (isLeafTable (o .kind)) refl e
+    where
+      by-mark : o .kind ≡ LeafTable → (x : Located) → cells.locatedIn o i db ≡ shown x → (m : Marking) → markOf (x .cell) ≡ m
+          → unmarked i x m ≡ shown l → Guarded o i db l
+      by-mark k x q (By mark) t d = never cc
+      by-mark k x q Clear t d =
+          let f : x ≡ l = cc in
+          record { leaf = k; located = q ∙ d; clear = subst (λ (y : Located). markOf (y .cell) ≡ Clear) f t }
+
+      by-cell : o .kind ≡ LeafTable → (x : Answer Refusal Located) → cells.locatedIn o i db ≡ x → guardedBy i x ≡ shown l → Guarded o i db l
+      by-cell k (refused refusal) q d = never cc
+      by-cell k (shown x) q d = by-mark k x q (markOf (x .cell)) refl d
+
+      by-kind : (b : Bool) → isLeafTable (o .kind) ≡ b
+          → (pick b (shown o) (onPage (o .page) re.KindUnfit) >>= (λ leaf. guardedBy i (cells.locatedIn leaf i db))) ≡ shown l → Guarded o i db l
+      by-kind false t d = never cc
+      by-kind true t d = by-cell (leaf-kind (o .kind) t) (cells.locatedIn o i db) refl d
+
+pub every-open-guarded : EveryOpenGuarded
+every-open-guarded o i db = (
+  λ l e. let g = guarded-in o i db e in (g .leaf, g .located, g .clear),
+  λ l k e m. leaf-in o i db (ap isLeafTable k) ∙ ap (guardedBy i) e ∙ ap (unmarked i l) m,
+  λ n. other-in o i db (other-kind (o .kind) n),
+  λ refusal k e. leaf-in o i db (ap isLeafTable k) ∙ ap (guardedBy i) e,
+  λ l mark k e m.
+      leaf-in o i db (ap isLeafTable k) ∙ ap (guardedBy i) e ∙ ap (unmarked i l) m
+      ∙ ap (λ (p : Open). refused (InCell (p .page .number) i (fa.Marked mark))) (held o i db e .opened),
+)
+
+-- A CELL OF A PAGE
+
+pub record Opens (n i : ℕ) (db : List ℕ) (l : Located) : Type 0 where
+  pub o : Open
+  pub opened : page.openOf (filePage n) db ≡ shown o
+  pub is : Guarded o i db l
+
+module _ (n i : ℕ) (db : List ℕ) where
+  pub guarded-unopened : {refusal : Refusal} → openOf n db ≡ refused refusal → locatedOf n i db ≡ refused refusal
+  unfolding locatedOf
+  guarded-unopened e = rw e
+
+  pub guarded-open : {o : Open} → openOf n db ≡ shown o → locatedOf n i db ≡ locatedIn o i db
+  unfolding locatedOf
+  guarded-open e = rw e
+
+  pub guarded : {l : Located} → locatedOf n i db ≡ shown l → Opens n i db l
+  unfolding locatedOf
+  guarded {l} e = go (openOf n db) refl e
+    where
+      go : (x : Answer Refusal Open) → openOf n db ≡ x → (x >>= (λ o. locatedIn o i db)) ≡ shown l → Opens n i db l
+      go (refused refusal) q d = never cc
+      go (shown o) q d = record { o = o; opened = leaf-opened n db q .0; is = guarded-in o i db d }
+
+  -- on a table leaf, the file reading's cell by its mark
+  pub on-leaf : {s : Site} → siteOf (filePage n) db ≡ shown s → s .kind ≡ LeafTable → locatedOf n i db ≡ guardedBy i (cells.locatedOf (filePage n) i db)
+  on-leaf {s} e k = go (openFrom s db) refl
+    where
+      leaf : isLeafTable (s .kind) ≡ true
+      leaf = ap isLeafTable k
+
+      go : (x : Answer Refusal Open) → openFrom s db ≡ x → locatedOf n i db ≡ guardedBy i (cells.locatedOf (filePage n) i db)
+      go (refused refusal) q =
+          guarded-unopened (site-leaf n db e leaf ∙ q)
+          ∙ sym (ap (guardedBy i) (located-unopened (filePage n) i db (open-site (filePage n) db e ∙ q)))
+      go (shown o) q =
+          let f : isLeafTable (o .kind) ≡ true = rw (opening s db q .is) leaf in
+          guarded-open (site-leaf n db e leaf ∙ q) ∙ leaf-in o i db f
+          ∙ sym (ap (guardedBy i) (located-open (filePage n) i db (open-site (filePage n) db e ∙ q)))

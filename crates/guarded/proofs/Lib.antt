@@ -1,11 +1,11 @@
 pub mod Values
 pub mod Pages
+pub mod Guard
 pub mod Cells
 pub mod Rows
-pub mod Guard
 pub mod Columns
 pub mod Agrees
+pub mod Along
 pub mod Differ
 pub mod Each
-pub mod Stages
-pub mod Along
+pub mod Marked

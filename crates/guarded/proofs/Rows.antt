@@ -6,60 +6,66 @@ use mathlib.Core.List.{List}
 use native.Mathlib.Omega.{arith}
 use lib.IntN.{ℤ}
 use Rattle.laws.proofs.Never.{never}
-use Rattle.cell.specs.declared.Cell as dc
-use Rattle.page.specs.declared.Open.{Open}
-use Rattle.page.specs.declared.Located.{Located}
-use Rattle.page.specs.declared.Located.the-variants as lo
-use Rattle.page.specs.Place.{oldKey, fileKey}
-use Rattle.page.specs.Entry.{rowNumber}
-use Rattle.page.specs.Located.{locatedOf}
-use Rattle.row.specs.Row.{countBy, countOf, rowBy, rowOf, cursorBy, cursorOf, columnBy, columnOf}
+use Rattle.answers.specs.declared.Refusal.{Refusal}
+use Rattle.answers.specs.Answer.{Answer, refused, shown}
+use Rattle.record.specs.Types.{count}
+use Rattle.columns.specs.declared.Slot.{Slot}
+use Rattle.place.specs.declared.Page.{Page}
+use Rattle.place.specs.Place.{oldPage, filePage}
+use Rattle.cells.specs.Located.{Located, rowNumber, locatedOf}
+use Rattle.row.specs.Row.{countBy, countOf, rowBy, rowOf}
+use Rattle.row.specs.Column.{slotThen, columnBy, columnOf}
 use Rattle.row.specs.Old as old-calls
 use Rattle.row.specs.File as file-calls
 use Rattle.guarded.specs.Guarded as guarded-calls
 use Rattle.guarded.specs.Shows.{Meaning, oldAnswer, fileAnswer, listed, Row, row, rowFrom, oldShows, fileShows, guardedShows}
 
--- value k of a located cell
-abbrev pub oldValue : List ℕ → Located → ℕ → Meaning
-oldValue db x k = oldAnswer db (old-calls.shownBy db (columnBy k db (cursorBy x)))
+-- what stands in a slot of a page's cell
+abbrev pub oldIn : List ℕ → Page → Slot → Meaning
+oldIn db page slot = oldAnswer db (old-calls.shownBy db (slotThen page slot))
 
-abbrev pub fileValue : List ℕ → Located → ℕ → Meaning
-fileValue db x k = fileAnswer db (file-calls.shownBy db (columnBy k db (cursorBy x)))
+abbrev pub fileIn : List ℕ → Page → Slot → Meaning
+fileIn db page slot = fileAnswer db (file-calls.shownBy db (slotThen page slot))
+
+-- value k of a located cell
+abbrev pub oldValue : List ℕ → Answer Refusal Located → ℕ → Meaning
+oldValue db x k = oldAnswer db (old-calls.shownBy db (columnBy k x))
+
+abbrev pub fileValue : List ℕ → Answer Refusal Located → ℕ → Meaning
+fileValue db x k = fileAnswer db (file-calls.shownBy db (columnBy k x))
 
 -- the row of a located cell
-abbrev pub oldRow : List ℕ → Located → Row
+abbrev pub oldRow : List ℕ → Answer Refusal Located → Row
 oldRow db x = rowFrom (countBy x) (rowBy x) (oldValue db x)
 
-abbrev pub fileRow : List ℕ → Located → Row
+abbrev pub fileRow : List ℕ → Answer Refusal Located → Row
 fileRow db x = rowFrom (countBy x) (rowBy x) (fileValue db x)
 
 -- the three readings
 module _ (page i : ℕ) (db : List ℕ) where
-  pub old-is : oldShows page i db ≡ oldRow db (locatedOf (oldKey page) i db)
-  unfolding oldShows countOf rowOf old-calls.shownOf columnOf cursorOf
+  pub old-is : oldShows page i db ≡ oldRow db (locatedOf (oldPage page) i db)
+  unfolding oldShows countOf rowOf old-calls.shownOf columnOf
   old-is = refl
 
-  pub file-is : fileShows page i db ≡ fileRow db (locatedOf (fileKey page) i db)
-  unfolding fileShows countOf rowOf file-calls.shownOf columnOf cursorOf
+  pub file-is : fileShows page i db ≡ fileRow db (locatedOf (filePage page) i db)
+  unfolding fileShows countOf rowOf file-calls.shownOf columnOf
   file-is = refl
 
   pub guarded-is : guardedShows page i db ≡ fileRow db (guarded-calls.locatedOf page i db)
-  unfolding guardedShows guarded-calls.countOf guarded-calls.rowOf guarded-calls.shownOf guarded-calls.cursorOf
+  unfolding guardedShows guarded-calls.countOf guarded-calls.rowOf guarded-calls.shownOf
   guarded-is = refl
 
 -- a row that is shown
-pub record Shown (x : Located) (value : ℕ → Meaning) (number : ℤ) (values : List Meaning) : Type 0 where
-  pub o : Open
-  pub p : ℕ
-  pub c : dc.Cell
-  pub is : x ≡ lo.Shown o p c
-  pub number-is : rowNumber (c .row .value) ≡ number
-  pub values-are : listed (c .columns) value ≡ values
+pub record Shown (x : Answer Refusal Located) (value : ℕ → Meaning) (number : ℤ) (values : List Meaning) : Type 0 where
+  pub l : Located
+  pub is : x ≡ shown l
+  pub number-is : rowNumber (l .cell .row .value) ≡ number
+  pub values-are : listed (count (l .cell .types)) value ≡ values
 
-pub shown : (x : Located) (value : ℕ → Meaning) {number : ℤ} {values : List Meaning} → rowFrom (countBy x) (rowBy x) value ≡ row number values
-    → Shown x value number values
-shown (lo.Refused refusal) value e = never cc
-shown (lo.Shown o p c) value e = record { o = o; p = p; c = c; is = refl; number-is = cc; values-are = cc }
+pub row-shown : (x : Answer Refusal Located) (value : ℕ → Meaning) {number : ℤ} {values : List Meaning}
+    → rowFrom (countBy x) (rowBy x) value ≡ row number values → Shown x value number values
+row-shown (refused refusal) value e = never cc
+row-shown (shown l) value e = record { l = l; is = refl; number-is = cc; values-are = cc }
 
 -- LISTS
 

@@ -1,4 +1,3 @@
 pub mod Guarded
-pub mod Steps
 pub mod Shows
 pub mod Agreement

@@ -10,11 +10,11 @@ use Rattle.values.specs.declared.old.Value as ov
 use Rattle.values.specs.declared.old.Value.the-variants as ol
 use Rattle.values.specs.declared.file.Value as fv
 use Rattle.values.specs.declared.file.Value.the-variants as fi
-use Rattle.page.specs.Place.{oldKey, fileKey}
+use Rattle.place.specs.Place.{oldPage, filePage}
 use Rattle.row.specs.declared.CountAnswer.{CountAnswer}
 use Rattle.row.specs.declared.CountAnswer.the-variants as co
-use Rattle.row.specs.declared.RowAnswer.{RowAnswer}
-use Rattle.row.specs.declared.RowAnswer.the-variants as ro
+use Rattle.row.specs.declared.RowNumberAnswer.{RowNumberAnswer}
+use Rattle.row.specs.declared.RowNumberAnswer.the-variants as ro
 use Rattle.row.specs.declared.old.ValueAnswer as oa
 use Rattle.row.specs.declared.old.ValueAnswer.the-variants as old
 use Rattle.row.specs.declared.file.ValueAnswer as fa
@@ -67,7 +67,7 @@ pub data Row : Type 0 where
   none : Refusal → Row
   row : ℤ → List Meaning → Row
 
-abbrev pub rowFrom : CountAnswer → RowAnswer → (ℕ → Meaning) → Row
+abbrev pub rowFrom : CountAnswer → RowNumberAnswer → (ℕ → Meaning) → Row
 rowFrom (co.Refused refusal) number value = none refusal
 rowFrom (co.Shown n) (ro.Refused refusal) value = none refusal
 rowFrom (co.Shown n) (ro.Shown v) value = row v (listed n value)
@@ -75,12 +75,12 @@ rowFrom (co.Shown n) (ro.Shown v) value = row v (listed n value)
 -- pages count from 0
 unfoldable pub oldShows : ℕ → ℕ → List ℕ → Row
 oldShows number i db =
-    rowFrom (countOf (oldKey number) i db) (rowOf (oldKey number) i db) (λ k. oldAnswer db (old-calls.shownOf number i k db))
+    rowFrom (countOf (oldPage number) i db) (rowOf (oldPage number) i db) (λ k. oldAnswer db (old-calls.shownOf number i k db))
 
 -- pages count from 1
 unfoldable pub fileShows : ℕ → ℕ → List ℕ → Row
 fileShows number i db =
-    rowFrom (countOf (fileKey number) i db) (rowOf (fileKey number) i db) (λ k. fileAnswer db (file-calls.shownOf number i k db))
+    rowFrom (countOf (filePage number) i db) (rowOf (filePage number) i db) (λ k. fileAnswer db (file-calls.shownOf number i k db))
 
 unfoldable pub guardedShows : ℕ → ℕ → List ℕ → Row
 guardedShows number i db =

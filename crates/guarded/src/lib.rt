@@ -4,104 +4,110 @@
 // never run. That it agrees wherever a cell is shown is a theorem: specs/Agreement.antt. Pages count from 1. A cursor goes
 // on with `row::file::next`.
 ghost use mathlib.Core.Path.{_≡_};
-ghost use Rattle.page.specs.Open.{kindIn};
-ghost use Rattle.row.specs.Row.{foundBy};
-ghost use Rattle.guarded.specs.Guarded.{openOf, locatedOf, countOf, rowOf, cursorOf, shownOf};
-ghost use Rattle.guarded.specs.Steps.{otherKind, refusedBy, markedBy, foundIn};
+ghost use Prim.Native.Nat.{_≤_};
+ghost use lib.ListN.{length};
+ghost use Rattle.columns.specs.Columns.{typesAt};
+ghost use Rattle.marks.specs.Marks.{lowest};
+ghost use Rattle.page.specs.Open.{openAnswer};
+ghost use Rattle.row.specs.Found.{foundBy};
+ghost use Rattle.guarded.specs.Guarded.{isLeafTable, openOf, locatedIn, locatedOf, countOf, rowOf, cursorOf, shownOf};
 use answers::Fault;
 use answers::Reason;
 use answers::Refusal;
 use cell::Kind;
 use marks::Marking;
-use page::KindAnswer;
 use page::Open;
 use page::OpenAnswer;
+use page::SiteAnswer;
 use row::CountAnswer;
 use row::CursorAnswer;
 use row::FoundAnswer;
-use row::RowAnswer;
+use row::FoundCell;
+use row::RowNumberAnswer;
 use row::file::ValueAnswer;
+use varint::Number;
 
-// Whether a page is of a kind that is known and no table leaf.
-fn other_kind(answer: KindAnswer) -> bool
-    ensures { λ r. ⌜ r ≡ otherKind answer ⌝ }
+fn is_leaf_table(kind: Kind) -> bool
+    ensures { λ r. ⌜ r ≡ isLeafTable kind ⌝ }
 {
-    let KindAnswer::Known(kind) = answer else {
-        return false;
-    };
     match kind {
-        Kind::InteriorIndex => true,
-        Kind::InteriorTable => true,
-        Kind::LeafIndex => true,
-        Kind::LeafTable => false,
+        Kind::InteriorIndex => false,
+        Kind::InteriorTable => false,
+        Kind::LeafIndex => false,
+        Kind::LeafTable => true,
     }
-}
-
-// What the file reading refuses, on a page that may be of another kind.
-fn refused_as(db: &[u8], key: usize, reason: Reason) -> Reason
-    ensures { λ r. ⌜ r ≡ refusedBy (kindIn key (now (db .entry))) reason ⌝ }
-{
-    if other_kind(page::kind_in(db, key)) {
-        return Reason::KindUnfit;
-    }
-    reason
 }
 
 // The table leaf of that number.
 pub fn open_page(db: &[u8], number: u32) -> OpenAnswer
-    ensures { λ r. ⌜ r ≡ openOf number (now (db .entry)) ⌝ }
+    ensures { λ r. ⌜ r ≡ openAnswer (openOf number (now (db .entry))) ⌝ }
 {
-    let key = page::file(number);
-    let answer = page::open_page(db, key);
+    let answer = page::site_of(db, place::file(number));
     match answer {
-        OpenAnswer::Refused(reason) => OpenAnswer::Refused(refused_as(db, key, reason)),
-        OpenAnswer::Shown(opened) => {
-            let kind = opened.kind;
-            if other_kind(KindAnswer::Known(kind)) {
-                return OpenAnswer::Refused(Reason::KindUnfit);
+        SiteAnswer::Refused(refusal) => OpenAnswer::Refused(refusal),
+        SiteAnswer::Shown(site) => {
+            let page = site.page;
+            let kind = site.kind;
+            if is_leaf_table(kind) {
+                return page::open_site(db, site);
             }
-            OpenAnswer::Shown(opened)
+            OpenAnswer::Refused(Refusal::OnPage {
+                page: page.number,
+                reason: Reason::KindUnfit,
+            })
         }
     }
 }
 
-// What was found, unless it is marked.
-fn unmarked(i: usize, answer: FoundAnswer, marking: Marking) -> FoundAnswer
-    ensures { λ r. ⌜ r ≡ markedBy i answer marking ⌝ }
+// The lowest mark of a cell that was found, whose types lie in the bytes.
+fn marking(db: &[u8], found: FoundCell) -> Marking
+    requires { ⌜ (found .cursor .at ≤ found .cursor .stop) × (found .cursor .stop ≤ length (now db)) ⌝ }
+    ensures { λ r. ⌜ r ≡ lowest (found .cell .numbers .size .length) (found .cell .numbers .key .length) (found .cell .header .length) (typesAt (found .cursor) (now (db .entry))) ⌝ }
 {
-    match marking {
-        Marking::Clear => answer,
-        Marking::By(mark) => FoundAnswer::Refused(Refusal::InCell {
-            cell: i,
-            fault: Fault::Marked(mark),
-        }),
-    }
+    let cell = found.cell;
+    let numbers = cell.numbers;
+    let size: Number = numbers.size;
+    let key: Number = numbers.key;
+    let header: Number = cell.header;
+    let cursor = found.cursor;
+    let reading = cursor.reading;
+    let start = cursor.at;
+    let stop = cursor.stop;
+    let limit = reading::limit_of(reading);
+    marks::mark_of(
+        &db[start..stop],
+        limit,
+        size.length,
+        key.length,
+        header.length,
+    )
 }
 
 // Cell `i` of a page that `open_page` opened, if its record has no mark: what `found` answers, with no check of header and
-// page made again.
+// page made again. A page that a caller makes up is asked for its kind, too.
 pub fn found_in(db: &[u8], opened: Open, i: usize) -> FoundAnswer
-    ensures { λ r. ⌜ r ≡ foundIn opened i (now (db .entry)) ⌝ }
+    ensures { λ r. ⌜ r ≡ foundBy (locatedIn opened i (now (db .entry))) ⌝ }
 {
+    let page = opened.page;
+    let kind = opened.kind;
+    if !is_leaf_table(kind) {
+        return FoundAnswer::Refused(Refusal::OnPage {
+            page: page.number,
+            reason: Reason::KindUnfit,
+        });
+    }
     let answer = row::found_in(db, opened, i);
-    match answer {
-        FoundAnswer::Refused(_) => answer,
-        FoundAnswer::Shown {
-            kind: _,
-            cell,
-            cursor,
-        } => {
-            let start = cursor.at;
-            let stop = cursor.stop;
-            let reading = cursor.reading;
-            let limit = reading::limit_of(reading);
-            let size = cell.size;
-            let row = cell.row;
-            let header = cell.header;
-            let types = &db[start..stop];
-            let marking = marks::mark_of(types, limit, size.length, row.length, header.length);
-            unmarked(i, answer, marking)
-        }
+    let FoundAnswer::Shown(found) = answer else {
+        return answer;
+    };
+    let mark = marking(db, found);
+    match mark {
+        Marking::Clear => answer,
+        Marking::By(mark) => FoundAnswer::Refused(Refusal::InCell {
+            page: page.number,
+            cell: i,
+            fault: Fault::Marked(mark),
+        }),
     }
 }
 
@@ -111,7 +117,7 @@ pub fn found(db: &[u8], number: u32, i: usize) -> FoundAnswer
 {
     let answer = open_page(db, number);
     match answer {
-        OpenAnswer::Refused(reason) => FoundAnswer::Refused(Refusal::Plain(reason)),
+        OpenAnswer::Refused(refusal) => FoundAnswer::Refused(refusal),
         OpenAnswer::Shown(opened) => found_in(db, opened, i),
     }
 }
@@ -123,28 +129,24 @@ pub fn count(db: &[u8], number: u32, i: usize) -> CountAnswer
     let answer = found(db, number, i);
     match answer {
         FoundAnswer::Refused(refusal) => CountAnswer::Refused(refusal),
-        FoundAnswer::Shown {
-            kind: _,
-            cell,
-            cursor: _,
-        } => CountAnswer::Shown(cell.columns),
+        FoundAnswer::Shown(found) => {
+            let cell = found.cell;
+            CountAnswer::Shown(cell.columns)
+        }
     }
 }
 
 // Its row number.
-pub fn row_number(db: &[u8], number: u32, i: usize) -> RowAnswer
+pub fn row_number(db: &[u8], number: u32, i: usize) -> RowNumberAnswer
     ensures { λ r. ⌜ r ≡ rowOf number i (now (db .entry)) ⌝ }
 {
     let answer = found(db, number, i);
     match answer {
-        FoundAnswer::Refused(refusal) => RowAnswer::Refused(refusal),
-        FoundAnswer::Shown {
-            kind: _,
-            cell,
-            cursor: _,
-        } => {
+        FoundAnswer::Refused(refusal) => RowNumberAnswer::Refused(refusal),
+        FoundAnswer::Shown(found) => {
+            let cell = found.cell;
             let row = cell.row;
-            RowAnswer::Shown(fields::signed_of(row.value))
+            RowNumberAnswer::Shown(fields::signed_of(row.value))
         }
     }
 }
@@ -153,21 +155,12 @@ pub fn row_number(db: &[u8], number: u32, i: usize) -> RowAnswer
 pub fn cursor(db: &[u8], number: u32, i: usize) -> CursorAnswer
     ensures { λ r. ⌜ r ≡ cursorOf number i (now (db .entry)) ⌝ }
 {
-    let answer = found(db, number, i);
-    match answer {
-        FoundAnswer::Refused(refusal) => CursorAnswer::Refused(refusal),
-        FoundAnswer::Shown {
-            kind: _,
-            cell: _,
-            cursor,
-        } => CursorAnswer::Shown(cursor),
-    }
+    row::cursor_of(found(db, number, i))
 }
 
 // Column `k` of the cell.
 pub fn value(db: &[u8], number: u32, i: usize, k: usize) -> ValueAnswer
     ensures { λ r. ⌜ r ≡ shownOf number i k (now (db .entry)) ⌝ }
 {
-    let opened = cursor(db, number, i);
-    row::file::shown(db, row::column_from(db, opened, k))
+    row::file::shown(db, row::column_of(db, found(db, number, i), k))
 }

@@ -13,15 +13,15 @@ use Rattle.laws.proofs.Never.{never}
 use Rattle.fields.proofs.Laws.{Bytes, unsigned-below, bytes-drop}
 use Rattle.reading.specs.declared.Reading.{Reading}
 use Rattle.reading.specs.declared.Reading.the-variants.{Old as old, File as file}
-use Rattle.answers.specs.declared.Reason.{Reason}
+use Rattle.answers.specs.declared.Flaw.{Flaw}
 use Rattle.answers.specs.declared.Checked.{Checked}
 use Rattle.answers.specs.declared.Checked.the-variants.{Passed, Failed}
 use Rattle.answers.specs.Checks.{Check, check, first}
 use Rattle.header.specs.declared.Header.{Header}
 use Rattle.header.specs.declared.HeaderAnswer.the-variants as ha
-use Rattle.header.specs.declared.Shape.{Shape}
-use Rattle.header.specs.declared.ShapeAnswer.the-variants as sh
-use Rattle.header.specs.Header.{fieldOf, pageSize, usable, bothChecks, fileChecks, checkedOf, fieldsIn, headerBy, headerOf, shapeIn, shapeBy, shapeOf}
+use Rattle.header.specs.declared.Sizes.{Sizes}
+use Rattle.header.specs.declared.SizesAnswer.the-variants as sh
+use Rattle.header.specs.Header.{fieldOf, pageSize, usable, bothChecks, fileChecks, checkedOf, fieldsIn, headerBy, headerOf, sizesIn, sizesBy, sizesOf}
 
 -- SIZES
 
@@ -45,33 +45,33 @@ usable-below db = omega arith
 -- the test of check k; a list that is passed has none that is given
 abbrev pub given : List Check → ℕ → Bool
 given [] k = false
-given (check reason b ∷ cs) zero = b
-given (check reason b ∷ cs) (suc k) = given cs k
+given (check flaw b ∷ cs) zero = b
+given (check flaw b ∷ cs) (suc k) = given cs k
 
 pub passes : (cs : List Check) → first cs ≡ Passed → (k : ℕ) → given cs k ≡ false
 passes [] h k = refl
-passes (check reason true ∷ cs) h k = let z : _≡_ {A = ℕ} 0 1 = cc in absurd (omega arith)
-passes (check reason false ∷ cs) h zero = refl
-passes (check reason false ∷ cs) h (suc k) = passes cs h k
+passes (check flaw true ∷ cs) h k = let z : _≡_ {A = ℕ} 0 1 = cc in absurd (omega arith)
+passes (check flaw false ∷ cs) h zero = refl
+passes (check flaw false ∷ cs) h (suc k) = passes cs h k
 
 pub passed-then : (cs ds : List Check) → first cs ≡ Passed → first (cs ++ ds) ≡ first ds
 passed-then [] ds h = refl
-passed-then (check reason true ∷ cs) ds h = let z : _≡_ {A = ℕ} 0 1 = cc in absurd (omega arith)
-passed-then (check reason false ∷ cs) ds h = passed-then cs ds h
+passed-then (check flaw true ∷ cs) ds h = let z : _≡_ {A = ℕ} 0 1 = cc in absurd (omega arith)
+passed-then (check flaw false ∷ cs) ds h = passed-then cs ds h
 
-pub failed-then : (cs ds : List Check) (reason : Reason) → first cs ≡ Failed reason → first (cs ++ ds) ≡ Failed reason
+pub failed-then : (cs ds : List Check) (flaw : Flaw) → first cs ≡ Failed flaw → first (cs ++ ds) ≡ Failed flaw
 failed-then [] ds r h = let z : _≡_ {A = ℕ} 0 1 = cc in absurd (omega arith)
-failed-then (check reason true ∷ cs) ds r h = h
-failed-then (check reason false ∷ cs) ds r h = failed-then cs ds r h
+failed-then (check flaw true ∷ cs) ds r h = h
+failed-then (check flaw false ∷ cs) ds r h = failed-then cs ds r h
 
 -- ACCEPTANCE
 
 -- the checks of both readings come first
 module _ (db : List ℕ) where
-  pub fails : (r : Reading) (reason : Reason) → first (bothChecks db) ≡ Failed reason → Failed reason ≡ checkedOf r db
+  pub fails : (r : Reading) (flaw : Flaw) → first (bothChecks db) ≡ Failed flaw → Failed flaw ≡ checkedOf r db
   unfolding checkedOf
-  fails old reason h = sym h
-  fails file reason h = sym (failed-then (bothChecks db) (fileChecks db) reason h)
+  fails old flaw h = sym h
+  fails file flaw h = sym (failed-then (bothChecks db) (fileChecks db) flaw h)
 
   pub goes-on : first (bothChecks db) ≡ Passed → checkedOf file db ≡ first (fileChecks db)
   unfolding checkedOf
@@ -84,7 +84,7 @@ old-passed db p = go (first (bothChecks db)) refl
   where
     go : (x : Checked) → first (bothChecks db) ≡ x → first (bothChecks db) ≡ Passed
     go Passed i = i
-    go (Failed reason) i = let e = sym (failed-then (bothChecks db) (fileChecks db) reason i) ∙ p in never cc
+    go (Failed flaw) i = let e = sym (failed-then (bothChecks db) (fileChecks db) flaw i) ∙ p in never cc
 
 pub passed-limit : (r : Reading) (db : List ℕ) → checkedOf r db ≡ Passed → length db ≤ 1073741824
 unfolding checkedOf
@@ -104,37 +104,37 @@ passed-usable db h = ltb-false (usable db) 480 (passes (bothChecks db ++ fileChe
 
 header-by-shown : (t : Header) (k : Checked) (h : Header) → headerBy t k ≡ ha.Shown h → (k ≡ Passed) × (h ≡ t)
 header-by-shown t Passed h e = (refl, cc)
-header-by-shown t (Failed reason) h e = let z : _≡_ {A = ℕ} 0 1 = cc in absurd (omega arith)
+header-by-shown t (Failed flaw) h e = let z : _≡_ {A = ℕ} 0 1 = cc in absurd (omega arith)
 
-header-by-refused : (t : Header) (k : Checked) (reason : Reason) → headerBy t k ≡ ha.Refused reason → k ≡ Failed reason
-header-by-refused t Passed reason e = let z : _≡_ {A = ℕ} 0 1 = cc in absurd (omega arith)
-header-by-refused t (Failed other) reason e = cc
+header-by-refused : (t : Header) (k : Checked) (flaw : Flaw) → headerBy t k ≡ ha.Refused flaw → k ≡ Failed flaw
+header-by-refused t Passed flaw e = let z : _≡_ {A = ℕ} 0 1 = cc in absurd (omega arith)
+header-by-refused t (Failed other) flaw e = cc
 
-shape-by-shown : (t : Shape) (k : Checked) (s : Shape) → shapeBy t k ≡ sh.Shown s → (k ≡ Passed) × (s ≡ t)
-shape-by-shown t Passed s e = (refl, cc)
-shape-by-shown t (Failed reason) s e = let z : _≡_ {A = ℕ} 0 1 = cc in absurd (omega arith)
+sizes-by-shown : (t : Sizes) (k : Checked) (s : Sizes) → sizesBy t k ≡ sh.Shown s → (k ≡ Passed) × (s ≡ t)
+sizes-by-shown t Passed s e = (refl, cc)
+sizes-by-shown t (Failed flaw) s e = let z : _≡_ {A = ℕ} 0 1 = cc in absurd (omega arith)
 
-shape-by-refused : (t : Shape) (k : Checked) (reason : Reason) → shapeBy t k ≡ sh.Refused reason → k ≡ Failed reason
-shape-by-refused t Passed reason e = let z : _≡_ {A = ℕ} 0 1 = cc in absurd (omega arith)
-shape-by-refused t (Failed other) reason e = cc
+sizes-by-refused : (t : Sizes) (k : Checked) (flaw : Flaw) → sizesBy t k ≡ sh.Refused flaw → k ≡ Failed flaw
+sizes-by-refused t Passed flaw e = let z : _≡_ {A = ℕ} 0 1 = cc in absurd (omega arith)
+sizes-by-refused t (Failed other) flaw e = cc
 
 module _ (r : Reading) (db : List ℕ) where
   pub header-shown : (h : Header) → headerOf r db ≡ ha.Shown h → (checkedOf r db ≡ Passed) × (h ≡ fieldsIn r db)
   unfolding headerOf
   header-shown h e = header-by-shown (fieldsIn r db) (checkedOf r db) h e
 
-  pub header-refused : (reason : Reason) → headerOf r db ≡ ha.Refused reason → checkedOf r db ≡ Failed reason
+  pub header-refused : (flaw : Flaw) → headerOf r db ≡ ha.Refused flaw → checkedOf r db ≡ Failed flaw
   unfolding headerOf
-  header-refused reason e = header-by-refused (fieldsIn r db) (checkedOf r db) reason e
+  header-refused flaw e = header-by-refused (fieldsIn r db) (checkedOf r db) flaw e
 
-  pub shape-shown : (s : Shape) → shapeOf r db ≡ sh.Shown s → (checkedOf r db ≡ Passed) × (s ≡ shapeIn r db)
-  unfolding shapeOf
-  shape-shown s e = shape-by-shown (shapeIn r db) (checkedOf r db) s e
+  pub sizes-shown : (s : Sizes) → sizesOf r db ≡ sh.Shown s → (checkedOf r db ≡ Passed) × (s ≡ sizesIn r db)
+  unfolding sizesOf
+  sizes-shown s e = sizes-by-shown (sizesIn r db) (checkedOf r db) s e
 
-  pub shape-passed : checkedOf r db ≡ Passed → shapeOf r db ≡ sh.Shown (shapeIn r db)
-  unfolding shapeOf
-  shape-passed p = rw p
+  pub sizes-passed : checkedOf r db ≡ Passed → sizesOf r db ≡ sh.Shown (sizesIn r db)
+  unfolding sizesOf
+  sizes-passed p = rw p
 
-  pub shape-refused : (reason : Reason) → shapeOf r db ≡ sh.Refused reason → checkedOf r db ≡ Failed reason
-  unfolding shapeOf
-  shape-refused reason e = shape-by-refused (shapeIn r db) (checkedOf r db) reason e
+  pub sizes-refused : (flaw : Flaw) → sizesOf r db ≡ sh.Refused flaw → checkedOf r db ≡ Failed flaw
+  unfolding sizesOf
+  sizes-refused flaw e = sizes-by-refused (sizesIn r db) (checkedOf r db) flaw e

@@ -13,39 +13,23 @@ use lib.Seq.{drop-cons, take-nil, take-all}
 use mir.Facts.{and-yes}
 use borrow.Author.Tests.{eq-eqb, ne-eqb}
 use Rattle.laws.proofs.Table.{at}
-use Rattle.tables.specs.Tables.{Field, fields}
+use Rattle.tables.specs.Tables.{fieldAt, fieldWidth}
 use Rattle.fields.specs.Fields.{unsigned}
-use Rattle.header.specs.Places.{placeOf, bytesOf}
 use Rattle.header.specs.Header.{alike, among}
 
 -- THE TABLE OF FIELDS
 
-abbrev pub entry : ℕ → Field
-entry i = getD fields i (record { at = 0; width = 0 })
-
 fits : ℕ → ℕ → Bool
-fits i at = leb (entry i .width) 4 && leb (entry i .at + entry i .width) 100
+fits i at = leb (getD fieldWidth i 0) 4 && leb (at + getD fieldWidth i 0) 100
 
 -- every field has at most four bytes, and they stand in the first hundred
-pub within : (i : ℕ) → i < 21 → (entry i .width ≤ 4) × (entry i .at + entry i .width ≤ 100)
+pub within : (i : ℕ) → i < 21 → (getD fieldWidth i 0 ≤ 4) × (getD fieldAt i 0 + getD fieldWidth i 0 ≤ 100)
 unfolding fits
 within i h =
-    let narrow = leb (entry i .width) 4 in
-    let early = leb (entry i .at + entry i .width) 100 in
-    let both = and-yes narrow early (at fits (map (λ f. f .at) fields) tt i h) in
-    (leb→le (entry i .width) 4 (both .0), leb→le (entry i .at + entry i .width) 100 (both .1))
-
--- the sums are the table's
-summed : ℕ → ℕ → Bool
-summed i at = eqb (placeOf i) (entry i .at) && eqb (bytesOf i) (entry i .width)
-
-pub sums : (i : ℕ) → i < 21 → (placeOf i ≡ entry i .at) × (bytesOf i ≡ entry i .width)
-unfolding summed
-sums i h =
-    let place = eqb (placeOf i) (entry i .at) in
-    let bytes = eqb (bytesOf i) (entry i .width) in
-    let both = and-yes place bytes (at summed (map (λ f. f .at) fields) tt i h) in
-    (eqb→eq (placeOf i) (entry i .at) (both .0), eqb→eq (bytesOf i) (entry i .width) (both .1))
+    let width = getD fieldWidth i 0 in
+    let end = getD fieldAt i 0 + width in
+    let both = and-yes (leb width 4) (leb end 100) (at fits fieldAt tt i h) in
+    (leb→le width 4 (both .0), leb→le end 100 (both .1))
 
 -- so a reader of four bytes that is handed a field reads the field
 pub read : (db : List ℕ) (at width : ℕ) → width ≤ 4

@@ -8,29 +8,26 @@ use mathlib.Core.Bool.{Bool, true, false, not, _||_, _&&_}
 use lib.Dec.{ltb, eqb}
 use lib.ListN.{length, take, drop, getD}
 use Rattle.laws.specs.Pick.{pick}
-use Rattle.tables.specs.Tables.{Field, fields}
+use Rattle.tables.specs.Tables.{fieldAt, fieldWidth}
 use Rattle.fields.specs.Fields.{unsigned}
 use Rattle.reading.specs.declared.Reading.{Reading}
 use Rattle.reading.specs.declared.Reading.the-variants.{Old as old, File as file}
 use Rattle.answers.specs.declared.Checked.{Checked}
 use Rattle.answers.specs.declared.Checked.the-variants.{Passed, Failed}
-use Rattle.answers.specs.declared.Reason.the-variants as re
+use Rattle.answers.specs.declared.Flaw.the-variants as fl
 use Rattle.answers.specs.Checks.{Check, check, first}
 use Rattle.header.specs.declared.Header.{Header}
 use Rattle.header.specs.declared.HeaderAnswer.{HeaderAnswer}
 use Rattle.header.specs.declared.HeaderAnswer.the-variants as ha
-use Rattle.header.specs.declared.Shape.{Shape}
-use Rattle.header.specs.declared.ShapeAnswer.{ShapeAnswer}
-use Rattle.header.specs.declared.ShapeAnswer.the-variants as sh
+use Rattle.header.specs.declared.Sizes.{Sizes}
+use Rattle.header.specs.declared.SizesAnswer.{SizesAnswer}
+use Rattle.header.specs.declared.SizesAnswer.the-variants as sh
 
 -- FIELDS
 
-abbrev none : Field
-none = record { at = 0; width = 0 }
-
 -- field i of the table
 unfoldable pub fieldOf : ℕ → List ℕ → ℕ
-fieldOf i db = unsigned (getD fields i none .width) (drop (getD fields i none .at) db)
+fieldOf i db = unsigned (getD fieldWidth i 0) (drop (getD fieldAt i 0) db)
 
 -- 1.3.2: a field of 1 means 65,536
 unfoldable pub pageSize : List ℕ → ℕ
@@ -69,18 +66,18 @@ sizes = 1 ∷ 512 ∷ 1024 ∷ 2048 ∷ 4096 ∷ 8192 ∷ 16384 ∷ 32768 ∷ []
 
 abbrev pub bothChecks : List ℕ → List Check
 bothChecks db =
-    check re.OverLimit (ltb 1073741824 (length db))
-    ∷ check re.OpeningDiffers (not (alike (take 16 db) opening))
-    ∷ check re.HeaderCut (ltb (length db) 100)
-    ∷ check re.EncodingUnknown (not (among (fieldOf 15 db) (1 ∷ 2 ∷ 3 ∷ [])))
+    check fl.OverLimit (ltb 1073741824 (length db))
+    ∷ check fl.OpeningDiffers (not (alike (take 16 db) opening))
+    ∷ check fl.HeaderCut (ltb (length db) 100)
+    ∷ check fl.EncodingUnknown (not (among (fieldOf 15 db) (1 ∷ 2 ∷ 3 ∷ [])))
     ∷ []
 
 abbrev pub fileChecks : List ℕ → List Check
 fileChecks db =
-    check re.PageSizeUnfit (not (among (fieldOf 0 db) sizes))
-    ∷ check re.UsableTooSmall (ltb (usable db) 480)
-    ∷ check re.ReadVersionAbove (ltb 2 (fieldOf 2 db))
-    ∷ check re.FractionsDiffer (not (eqb (fieldOf 4 db) 64 && (eqb (fieldOf 5 db) 32 && eqb (fieldOf 6 db) 32)))
+    check fl.PageSizeUnfit (not (among (fieldOf 0 db) sizes))
+    ∷ check fl.UsableTooSmall (ltb (usable db) 480)
+    ∷ check fl.ReadVersionAbove (ltb 2 (fieldOf 2 db))
+    ∷ check fl.FractionsDiffer (not (eqb (fieldOf 4 db) 64 && (eqb (fieldOf 5 db) 32 && eqb (fieldOf 6 db) 32)))
     ∷ []
 
 abbrev pub headerChecks : Reading → List ℕ → List Check
@@ -125,17 +122,17 @@ fieldsIn r db =
 
 abbrev pub headerBy : Header → Checked → HeaderAnswer
 headerBy h Passed = ha.Shown h
-headerBy h (Failed reason) = ha.Refused reason
+headerBy h (Failed flaw) = ha.Refused flaw
 
 unfoldable pub headerOf : Reading → List ℕ → HeaderAnswer
 headerOf r db = headerBy (fieldsIn r db) (checkedOf r db)
 
-abbrev pub shapeIn : Reading → List ℕ → Shape
-shapeIn r db = record { «page_size» = pageSize db; end = end r db }
+abbrev pub sizesIn : Reading → List ℕ → Sizes
+sizesIn r db = record { «page_size» = pageSize db; end = end r db }
 
-abbrev pub shapeBy : Shape → Checked → ShapeAnswer
-shapeBy s Passed = sh.Shown s
-shapeBy s (Failed reason) = sh.Refused reason
+abbrev pub sizesBy : Sizes → Checked → SizesAnswer
+sizesBy s Passed = sh.Shown s
+sizesBy s (Failed flaw) = sh.Refused flaw
 
-unfoldable pub shapeOf : Reading → List ℕ → ShapeAnswer
-shapeOf r db = shapeBy (shapeIn r db) (checkedOf r db)
+unfoldable pub sizesOf : Reading → List ℕ → SizesAnswer
+sizesOf r db = sizesBy (sizesIn r db) (checkedOf r db)

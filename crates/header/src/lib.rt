@@ -1,15 +1,17 @@
-// The database header: the checks that every call makes first, the fields, and the shape of the pages.
+// The database header: the checks that every call makes first, the fields, and the sizes of the pages.
 //
 // From the file format, 1.3 "The Database Header", and the Rust's `db_header`, whose names the fields keep.
 ghost use mathlib.Core.Path.{_≡_};
 ghost use Prim.Native.Nat.{_≤_, _<_};
 ghost use lib.ListN.{length, take};
 ghost use Rattle.answers.specs.Checks.{first};
-ghost use Rattle.header.specs.Places.{placeOf, bytesOf};
-ghost use Rattle.header.specs.Header.{fieldOf, pageSize, usable, end, alike, opening, fileChecks, checkedOf, reservedIn, fieldsIn, headerOf, shapeOf};
+ghost use Rattle.header.specs.Header.{fieldOf, pageSize, usable, end, alike, opening, fileChecks, checkedOf, reservedIn, fieldsIn, headerOf, sizesOf};
 use answers::Checked;
-use answers::Reason;
+use answers::Flaw;
 use reading::Reading;
+use tables::FIELD_AT;
+use tables::FIELD_WIDTH;
+use tables::wide;
 
 // The largest database that is read, in bytes.
 const LIMIT: usize = 1_073_741_824;
@@ -46,49 +48,19 @@ pub struct Header {
 
 pub enum HeaderAnswer {
     Shown(Header),
-    Refused(Reason),
+    Refused(Flaw),
 }
 
 // What the layers below the header know of it.
-pub struct Shape {
+pub struct Sizes {
     pub page_size: u32,
     // Where the cells of a page end: its size, or in the file reading that less the reserved space.
     pub end: u32,
 }
 
-pub enum ShapeAnswer {
-    Shown(Shape),
-    Refused(Reason),
-}
-
-// Where field `i` of the table stands: those of one byte follow each other from 18 on, those of four from 24 and from 92 on.
-fn place_of(i: usize) -> usize
-    requires { ⌜ i < 21 ⌝ }
-    ensures { λ r. ⌜ r ≡ placeOf i ⌝ }
-{
-    if i < 1 {
-        return 16;
-    }
-    if i < 7 {
-        return i + 17;
-    }
-    if i < 19 {
-        return 4 * i - 4;
-    }
-    4 * i + 16
-}
-
-// How many bytes it has.
-fn bytes_of(i: usize) -> usize
-    ensures { λ r. ⌜ r ≡ bytesOf i ⌝ }
-{
-    if i < 1 {
-        return 2;
-    }
-    if i < 7 {
-        return 1;
-    }
-    4
+pub enum SizesAnswer {
+    Shown(Sizes),
+    Refused(Flaw),
 }
 
 // Field `i` of the table.
@@ -96,8 +68,8 @@ fn field(db: &[u8], i: usize) -> u32
     requires { ⌜ (i < 21) × (100 ≤ length (now db)) ⌝ }
     ensures { λ r. ⌜ r ≡ fieldOf i (now (db .entry)) ⌝ }
 {
-    let at = place_of(i);
-    let end = at + bytes_of(i);
+    let at = wide(FIELD_AT[i]);
+    let end = at + wide(FIELD_WIDTH[i]);
     fields::be_u32(&db[at..end])
 }
 
@@ -145,23 +117,23 @@ fn file_checked(db: &[u8]) -> Checked
     match size {
         1 | 512 | 1024 | 2048 | 4096 | 8192 | 16384 | 32768 => {}
         _ => {
-            return Checked::Failed(Reason::PageSizeUnfit);
+            return Checked::Failed(Flaw::PageSizeUnfit);
         }
     }
     if usable_size(db) < 480 {
-        return Checked::Failed(Reason::UsableTooSmall);
+        return Checked::Failed(Flaw::UsableTooSmall);
     }
     if 2 < field(db, 2) {
-        return Checked::Failed(Reason::ReadVersionAbove);
+        return Checked::Failed(Flaw::ReadVersionAbove);
     }
     if field(db, 4) != 64 {
-        return Checked::Failed(Reason::FractionsDiffer);
+        return Checked::Failed(Flaw::FractionsDiffer);
     }
     if field(db, 5) != 32 {
-        return Checked::Failed(Reason::FractionsDiffer);
+        return Checked::Failed(Flaw::FractionsDiffer);
     }
     if field(db, 6) != 32 {
-        return Checked::Failed(Reason::FractionsDiffer);
+        return Checked::Failed(Flaw::FractionsDiffer);
     }
     Checked::Passed
 }
@@ -171,20 +143,20 @@ pub fn checked(db: &[u8], reading: Reading) -> Checked
     ensures { λ r. ⌜ r ≡ checkedOf reading (now (db .entry)) ⌝ }
 {
     if LIMIT < db.len() {
-        return Checked::Failed(Reason::OverLimit);
+        return Checked::Failed(Flaw::OverLimit);
     }
     if !opens(db) {
-        return Checked::Failed(Reason::OpeningDiffers);
+        return Checked::Failed(Flaw::OpeningDiffers);
     }
     if db.len() < 100 {
-        return Checked::Failed(Reason::HeaderCut);
+        return Checked::Failed(Flaw::HeaderCut);
     }
     let encoding = field(db, 15);
     if encoding < 1 {
-        return Checked::Failed(Reason::EncodingUnknown);
+        return Checked::Failed(Flaw::EncodingUnknown);
     }
     if 3 < encoding {
-        return Checked::Failed(Reason::EncodingUnknown);
+        return Checked::Failed(Flaw::EncodingUnknown);
     }
     match reading {
         Reading::Old => Checked::Passed,
@@ -197,18 +169,18 @@ pub fn header_of(db: &[u8], reading: Reading) -> HeaderAnswer
 {
     let passed = checked(db, reading);
     match passed {
-        Checked::Failed(reason) => HeaderAnswer::Refused(reason),
+        Checked::Failed(flaw) => HeaderAnswer::Refused(flaw),
         Checked::Passed => HeaderAnswer::Shown(fields_in(db, reading)),
     }
 }
 
-pub fn shape_of(db: &[u8], reading: Reading) -> ShapeAnswer
-    ensures { λ r. ⌜ r ≡ shapeOf reading (now (db .entry)) ⌝ }
+pub fn sizes_of(db: &[u8], reading: Reading) -> SizesAnswer
+    ensures { λ r. ⌜ r ≡ sizesOf reading (now (db .entry)) ⌝ }
 {
     let passed = checked(db, reading);
     match passed {
-        Checked::Failed(reason) => ShapeAnswer::Refused(reason),
-        Checked::Passed => ShapeAnswer::Shown(Shape {
+        Checked::Failed(flaw) => SizesAnswer::Refused(flaw),
+        Checked::Passed => SizesAnswer::Shown(Sizes {
             page_size: page_size(db),
             end: end_of(db, reading),
         }),

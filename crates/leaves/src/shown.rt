@@ -15,10 +15,10 @@ use varint::Varint;
 // A varint and how many bytes it took.
 pub fn found(v: Varint) {
     match v {
-        Varint::Value { value, length } => {
-            number(value);
+        Varint::Value(read) => {
+            number(read.value);
             text(b" in ");
-            number(length as u64);
+            number(read.length as u64);
         }
         Varint::Unfinished(_) => text(b"none"),
     }

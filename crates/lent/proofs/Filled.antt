@@ -1,32 +1,14 @@
--- Laws of the lent table, for the walks. A store to the first place behind the entries that are there lengthens them by
--- one and takes one place off the rest, so n stores leave what the page call promises (`stored-is`). `pageOf` shows a
--- page only behind the test that its cells fit in the table, so `fill` is never asked for more (`cells-within`).
+-- Laws of a table that is filled entry by entry, for the walks. A store to the first place behind the entries that are there
+-- lengthens them by one and takes one place off the rest (`filled-next`); the table's length stays (`filled-length`).
 use mathlib.Core.Path.{_≡_, refl, sym, _∙_, ap, subst}
-use Prim.Native.Nat.{ℕ, zero, suc, _+_, _<_, _≤_, zero-le}
+use Prim.Native.Nat.{ℕ, zero, suc, _+_, _-_, _<_, _≤_}
 use native.Mathlib.Nat.{not-suc-le-zero, add-suc, add-zero}
 use native.Mathlib.Omega.{arith}
 use mathlib.Core.List.{List, [], _∷_, _++_}
-use mathlib.Core.Bool.{Bool, true, false}
-use lib.Dec.{ltb}
-use borrow.Author.Tests.{ltb-false}
-use lib.ListN.{length, set, drop, length-append, length-drop, length-set}
-use Rattle.laws.specs.Pick.{pick}
-use Rattle.answers.specs.declared.Reason.the-variants as re
-use Rattle.answers.specs.declared.Refusal.the-variants.{Plain}
-use Rattle.page.specs.declared.Entry.{Entry}
-use Rattle.page.specs.declared.Head.{Head}
-use Rattle.page.specs.declared.Open.{Open}
+use lib.ListN.{length, set, drop, length-append, length-drop}
 use Rattle.page.specs.declared.OpenAnswer.{OpenAnswer}
-use Rattle.page.specs.declared.OpenAnswer.the-variants as oa
-use Rattle.page.specs.declared.PageAnswer.the-variants as pa
-use Rattle.page.specs.declared.Sound.{Sound}
-use Rattle.page.specs.declared.Sound.the-variants as so
-use Rattle.page.specs.Open.{openOf}
-use Rattle.page.specs.Place.{pageAt}
-use Rattle.page.specs.Page.{entryAt, entries, filled, headOf, soundFrom, cellsBy, pageBy, pageOf, written}
-use Rattle.lent.specs.Table.{stored}
-
--- THE PROMISE
+use Rattle.table.specs.declared.Entry.{Entry}
+use Rattle.table.specs.Entry.{entryFor, entries, filled}
 
 one-more : (n : ℕ) → n + 1 ≡ suc n
 one-more n = add-suc n zero ∙ ap suc (add-zero n)
@@ -46,75 +28,33 @@ drop-next (suc n) (y ∷ ys) = drop-next n ys
 some-left : (n : ℕ) (ys : List Entry) → n < length ys → 0 < length (drop n ys)
 some-left n ys l = subst (λ (k : ℕ). 0 < k) (sym (length-drop n ys)) (omega (arith, l))
 
-entries-length : (key : ℕ) (db : List ℕ) (n : ℕ) → length (entries key db n) ≡ n
+entries-length : (opening : OpenAnswer) (db : List ℕ) (n : ℕ) → length (entries opening db n) ≡ n
 unfolding entries
-entries-length key db zero = refl
-entries-length key db (suc n) =
-    length-append (entries key db n) (entryAt key db n ∷ [])
-    ∙ ap (λ (k : ℕ). k + 1) (entries-length key db n)
+entries-length opening db zero = refl
+entries-length opening db (suc n) =
+    length-append (entries opening db n) (entryFor opening db n ∷ [])
+    ∙ ap (λ (k : ℕ). k + 1) (entries-length opening db n)
     ∙ one-more n
 
--- one more store to a table that is filled so far
-filled-next : (key : ℕ) (db : List ℕ) (n : ℕ) (ys : List Entry)
-    → n < length ys → set (filled key db n ys) n (entryAt key db n) ≡ filled key db (suc n) ys
+pub filled-0 : (opening : OpenAnswer) (db : List ℕ) (ys : List Entry) → filled opening db 0 ys ≡ ys
 unfolding entries
-filled-next key db n ys l =
-    ap (λ (k : ℕ). set (filled key db n ys) k (entryAt key db n)) (sym (entries-length key db n))
-    ∙ stored-behind (entries key db n) (entryAt key db n) (drop n ys) (some-left n ys l)
-    ∙ ap (λ (zs : List Entry). (entries key db n ++ entryAt key db n ∷ []) ++ zs) (drop-next n ys)
+filled-0 opening db ys = refl
 
--- what the loop leaves is what the page call promises
-pub stored-is : (key : ℕ) (db : List ℕ) (n : ℕ) (ys : List Entry)
-    → n ≤ length ys → stored key db n ys ≡ filled key db n ys
-unfolding stored entries
-stored-is key db zero ys l = refl
-stored-is key db (suc n) ys l =
-    ap (λ (zs : List Entry). set zs n (entryAt key db n)) (stored-is key db n ys (omega (arith, l)))
-    ∙ filled-next key db n ys l
+-- one more store to a table that is filled so far
+pub filled-next : (opening : OpenAnswer) (db : List ℕ) (n : ℕ) (ys : List Entry)
+    → n < length ys → set (filled opening db n ys) n (entryFor opening db n) ≡ filled opening db (n + 1) ys
+unfolding entries
+filled-next opening db n ys l =
+    ap (λ (k : ℕ). set (filled opening db n ys) k (entryFor opening db n)) (sym (entries-length opening db n))
+    ∙ stored-behind (entries opening db n) (entryFor opening db n) (drop n ys) (some-left n ys l)
+    ∙ ap (λ (zs : List Entry). (entries opening db n ++ entryFor opening db n ∷ []) ++ zs) (drop-next n ys)
+    ∙ ap (λ (k : ℕ). filled opening db k ys) (sym (one-more n))
 
--- THE LOOP
-
-pub stored-0 : (key : ℕ) (db : List ℕ) (ys : List Entry) → stored key db 0 ys ≡ ys
-unfolding stored
-stored-0 key db ys = refl
-
-pub stored-next : (key : ℕ) (db : List ℕ) (n : ℕ) (ys : List Entry)
-    → set (stored key db n ys) n (entryAt key db n) ≡ stored key db (n + 1) ys
-unfolding stored
-stored-next key db n ys = ap (λ (k : ℕ). stored key db k ys) (sym (one-more n))
-
--- the table's length stays
-pub stored-length : (key : ℕ) (db : List ℕ) (n : ℕ) (ys : List Entry) → length (stored key db n ys) ≡ length ys
-unfolding stored
-stored-length key db zero ys = refl
-stored-length key db (suc n) ys = length-set (stored key db n ys) n (entryAt key db n) ∙ stored-length key db n ys
-
-pub filled-length : (key : ℕ) (db : List ℕ) (n : ℕ) (ys : List Entry)
-    → n ≤ length ys → length (filled key db n ys) ≡ length ys
-filled-length key db n ys l = sym (ap length (stored-is key db n ys l)) ∙ stored-length key db n ys
-
--- THE CELLS
-
-sound-within : (head : Head) (room : ℕ) (s : Sound) → head .cells ≤ room → written (cellsBy head s) ≤ room
-sound-within head room so.Sound l = l
-sound-within head room (so.Unsound i fault) l = zero-le
-
-tested-within : (o : Open) (room : ℕ) (page : List ℕ) (t : Bool)
-    → ltb room (o .cells) ≡ t
-    → written
-    (pick t (pa.Refused (Plain re.TableTooShort)) (cellsBy (headOf o page) (soundFrom o page 0 (o .cells))))
-    ≤ room
-unfolding headOf
-tested-within o room page true e = zero-le
-tested-within o room page false e =
-    sound-within (headOf o page) room (soundFrom o page 0 (o .cells)) (ltb-false _ _ e)
-
-opened-within : (room : ℕ) (db : List ℕ) (a : OpenAnswer) → written (pageBy room db a) ≤ room
-opened-within room db (oa.Refused reason) = zero-le
-opened-within room db (oa.Shown o) =
-    tested-within o room (pageAt (o .at) (o .size) db) (ltb room (o .cells)) refl
-
--- a page that is shown has no more cells than the table has places, and one that is refused writes none
-pub cells-within : (key room : ℕ) (db : List ℕ) → written (pageOf key room db) ≤ room
-unfolding pageOf
-cells-within key room db = opened-within room db (openOf key db)
+pub filled-length : (opening : OpenAnswer) (db : List ℕ) (n : ℕ) (ys : List Entry)
+    → n ≤ length ys → length (filled opening db n ys) ≡ length ys
+filled-length opening db n ys l =
+    length-append (entries opening db n) (drop n ys)
+    ∙ joined (length (entries opening db n)) (length (drop n ys)) (entries-length opening db n) (length-drop n ys)
+  where
+    joined : (a b : ℕ) → a ≡ n → b ≡ length ys - n → a + b ≡ length ys
+    joined a b e f = omega (arith, e, f, l)

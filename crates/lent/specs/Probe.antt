@@ -4,8 +4,11 @@ use Prim.Native.Nat.{ℕ}
 use mathlib.Core.List.{List}
 use lib.ListN.{getD, replicate}
 use lib.IntN.{pos}
-use Rattle.page.specs.declared.Entry.{Entry}
-use Rattle.page.specs.Page.{pageOf, written, filled}
+use Rattle.place.specs.declared.Page.{Page}
+use Rattle.page.specs.Open.{openOf, openAnswer}
+use Rattle.table.specs.declared.Entry.{Entry}
+use Rattle.table.specs.Entry.{filled}
+use Rattle.table.specs.Page.{pageOf, written}
 use Rattle.lent.specs.declared.Returned.{Returned}
 use Rattle.lent.specs.declared.Probed.{Probed}
 
@@ -17,10 +20,17 @@ abbrev pub blanks : List Entry
 blanks = replicate 8 blank
 
 -- a call that was lent ys, eight entries: its answer, and the table behind it
-unfoldable pub returnedOf : ℕ → List ℕ → List Entry → Returned
-returnedOf key db ys =
-    record { answer = pageOf key 8 db; table = filled key db (written (pageOf key 8 db)) ys }
+unfoldable pub returnedOf : Page → List ℕ → List Entry → Returned
+returnedOf asked db ys =
+    record {
+      answer = pageOf asked 8 db;
+      table = filled (openAnswer (openOf asked db)) db (written (pageOf asked 8 db)) ys;
+    }
 
 -- a call that was lent blanks: its answer, and place i of the table; blank where there is no such place
-unfoldable pub probeOf : ℕ → ℕ → List ℕ → Probed
-probeOf i key db = record { answer = returnedOf key db blanks .answer; entry = getD (returnedOf key db blanks .table) i blank }
+unfoldable pub probeOf : ℕ → Page → List ℕ → Probed
+probeOf i asked db =
+    record {
+      answer = returnedOf asked db blanks .answer;
+      entry = getD (returnedOf asked db blanks .table) i blank;
+    }

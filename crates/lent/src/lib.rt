@@ -1,35 +1,39 @@
 // The page call: it fills a table that the caller lends with the entries of a page's cells.
 //
-// What the call answers is decided by `page::check_page`, which sees the table's length alone. So nothing is written
-// before every cell is known to be sound, and a page that is refused leaves the table as it was.
+// The page is opened once. What the call answers is decided by `table::check_by`, which sees the lent table's length alone: so
+// nothing is written before every cell is known to be sound, and a page that is refused leaves the table as it was.
 ghost use mathlib.Core.Path.{_≡_};
 ghost use Prim.Native.Nat.{_≤_};
 ghost use lib.ListN.{length};
-ghost use Rattle.page.specs.Page.{pageOf, written, filled};
-ghost use Rattle.lent.specs.Table.{stored};
+ghost use Rattle.page.specs.Open.{openOf, openAnswer};
+ghost use Rattle.table.specs.Entry.{filled};
+ghost use Rattle.table.specs.Page.{pageOf, written};
 ghost use Rattle.lent.specs.Probe.{returnedOf, probeOf};
-use page::Entry;
-use page::PageAnswer;
+use page::OpenAnswer;
+use place::Page;
+use table::Entry;
+use table::PageAnswer;
 
 // The page call.
-pub fn page(db: &[u8], key: usize, table: &mut [Entry]) -> PageAnswer
-    ensures { λ r. ⌜ (r ≡ pageOf key (length (now (table .entry))) (now (db .entry)))
-        × (now (table .exit) ≡ filled key (now (db .entry)) (written r) (now (table .entry))) ⌝ }
+pub fn page(db: &[u8], asked: Page, table: &mut [Entry]) -> PageAnswer
+    ensures { λ r. ⌜ (r ≡ pageOf asked (length (now (table .entry))) (now (db .entry)))
+        × (now (table .exit) ≡ filled (openAnswer (openOf asked (now (db .entry)))) (now (db .entry)) (written r) (now (table .entry))) ⌝ }
 {
-    let answer = page::check_page(db, key, table.len());
-    let n = page::written_of(answer);
-    fill(db, key, n, table);
+    let opening = page::open_page(db, asked);
+    let answer = table::check_by(db, opening, table.len());
+    let n = table::written_of(answer);
+    fill(db, opening, n, table);
     answer
 }
 
 // Stores the entries of the first n cells, each at its place.
-fn fill(db: &[u8], key: usize, n: usize, table: &mut [Entry])
+fn fill(db: &[u8], opening: OpenAnswer, n: usize, table: &mut [Entry])
     requires { ⌜ n ≤ length (now table) ⌝ }
-    ensures { λ _. ⌜ now (table .exit) ≡ stored key (now (db .entry)) n (now (table .entry)) ⌝ }
+    ensures { λ _. ⌜ now (table .exit) ≡ filled opening (now (db .entry)) n (now (table .entry)) ⌝ }
 {
     let mut i = 0;
     while i < n {
-        table[i] = page::entry_at(db, key, i);
+        table[i] = table::entry_by(db, opening, i);
         i = i + 1;
     }
 }
@@ -59,10 +63,10 @@ const BLANK: Entry = Entry {
 
 // The page call for a caller that has no table to lend: one of eight blanks is lent, and its place i is shown, blank where
 // there is no such place. With plain parameters, so that tests of the page call can be covered.
-pub fn probe(db: &[u8], key: usize, i: usize) -> Probed
-    ensures { λ r. ⌜ r ≡ probeOf i key (now (db .entry)) ⌝ }
+pub fn probe(db: &[u8], asked: Page, i: usize) -> Probed
+    ensures { λ r. ⌜ r ≡ probeOf i asked (now (db .entry)) ⌝ }
 {
-    let returned = lend(db, key, [BLANK; 8]);
+    let returned = lend(db, asked, [BLANK; 8]);
     if i < 8 {
         Probed {
             answer: returned.answer,
@@ -77,9 +81,9 @@ pub fn probe(db: &[u8], key: usize, i: usize) -> Probed
 }
 
 // Lends the table to the page call, and hands it back.
-fn lend(db: &[u8], key: usize, mut table: [Entry; 8]) -> Returned
-    ensures { λ r. ⌜ r ≡ returnedOf key (now (db .entry)) table ⌝ }
+fn lend(db: &[u8], asked: Page, mut table: [Entry; 8]) -> Returned
+    ensures { λ r. ⌜ r ≡ returnedOf asked (now (db .entry)) table ⌝ }
 {
-    let answer = page(db, key, &mut table);
+    let answer = page(db, asked, &mut table);
     Returned { answer, table }
 }

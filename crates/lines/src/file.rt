@@ -1,4 +1,7 @@
 // What the file reading shows of a cell; the guarded one shows it in the same words.
+ghost use mathlib.Core.Path.{_≡_};
+ghost use Rattle.print.specs.Gathered.{gathered, puts};
+ghost use Rattle.lines.specs.Row.{valueText, valuesText, rowText};
 use columns::Cursor;
 use print::out::field_i64;
 use print::out::integer;
@@ -10,17 +13,18 @@ use row::FoundAnswer;
 use row::file::NextAnswer;
 use values::file::Value;
 use values::part::part;
+use varint::Number;
 
 // The rest of a cell's line: the row number and the values, or the refusal.
-pub fn row(db: &[u8], out: &mut [u8], at: usize, answer: FoundAnswer) -> usize {
+pub fn row(db: &[u8], out: &mut [u8], at: usize, answer: FoundAnswer) -> usize
+    ensures { λ r. ⌜ gathered (now (out .exit)) r ≡ puts (rowText (now (db .entry)) answer) (gathered (now (out .entry)) at) ⌝ }
+{
     match answer {
         FoundAnswer::Refused(refusal) => refused(out, at, answers::numbers_of(refusal)),
-        FoundAnswer::Shown {
-            kind: _,
-            cell,
-            cursor,
-        } => {
-            let row = cell.row;
+        FoundAnswer::Shown(found) => {
+            let cell = found.cell;
+            let cursor = found.cursor;
+            let row: Number = cell.row;
             let n = field_i64(out, at, fields::signed_of(row.value));
             let n = values(db, out, n, cursor, cell.columns);
             text(out, n, b"\n")
@@ -29,7 +33,9 @@ pub fn row(db: &[u8], out: &mut [u8], at: usize, answer: FoundAnswer) -> usize {
 }
 
 // At most as many values as are counted, so that the loop is seen to end.
-fn values(db: &[u8], out: &mut [u8], at: usize, first: Cursor, count: usize) -> usize {
+fn values(db: &[u8], out: &mut [u8], at: usize, first: Cursor, count: usize) -> usize
+    ensures { λ r. ⌜ gathered (now (out .exit)) r ≡ puts (valuesText count first (now (db .entry))) (gathered (now (out .entry)) at) ⌝ }
+{
     let mut n = at;
     let mut here = first;
     let mut left = count;
@@ -45,7 +51,9 @@ fn values(db: &[u8], out: &mut [u8], at: usize, first: Cursor, count: usize) -> 
     n
 }
 
-fn value(db: &[u8], out: &mut [u8], at: usize, v: Value) -> usize {
+fn value(db: &[u8], out: &mut [u8], at: usize, v: Value) -> usize
+    ensures { λ r. ⌜ gathered (now (out .exit)) r ≡ puts (valueText (now (db .entry)) v) (gathered (now (out .entry)) at) ⌝ }
+{
     match v {
         Value::Null => text(out, at, b" null"),
         Value::Integer(z) => integer(out, at, b" i:", z),

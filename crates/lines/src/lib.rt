@@ -4,17 +4,18 @@
 // four numbers of the answer. It streams: nothing is kept of a line but a buffer of output, and a row's values are come
 // by along its cursor. docs/READINGS.md says how values are written.
 //
-// No contract can say what is read or written, so the functions here promise nothing: each is proved safe and ending.
-// What is printed is made by the functions of the readers, whose promises say all of it.
+// No contract can say what is read or written, and `run` answers nothing: it is proved safe and ending. What is printed is
+// made by the functions of the readers and of `print`, whose promises say all of it; `file::row`, which others call too,
+// promises the text of a row.
 pub mod file;
 mod old;
 
-use answers::Reason;
+use answers::Flaw;
 use answers::Refusal;
 use cell::Kind;
-use header::ShapeAnswer;
 use libc::STDIN_FILENO;
 use page::OpenAnswer;
+use place::ShapeAnswer;
 use print::out::field;
 use print::out::field_u8;
 use print::out::flush;
@@ -36,7 +37,7 @@ pub fn run() {
 fn answer(buffer: &[u8], out: &mut [u8], at: usize, n: usize) -> usize {
     let mut more = [0u8; 1];
     if 0 < io::read_full(STDIN_FILENO, &mut more) {
-        return refused(out, at, Reason::OverLimit);
+        return refused(out, at, Flaw::OverLimit);
     }
     if buffer.len() < n {
         return at;
@@ -44,26 +45,19 @@ fn answer(buffer: &[u8], out: &mut [u8], at: usize, n: usize) -> usize {
     database(&buffer[0..n], out, at)
 }
 
-fn refused(out: &mut [u8], at: usize, reason: Reason) -> usize {
-    let numbers = answers::numbers_of(Refusal::Plain(reason));
+fn refused(out: &mut [u8], at: usize, flaw: Flaw) -> usize {
+    let numbers = answers::numbers_of(Refusal::OfDatabase(flaw));
     let n = text(out, at, b"refused");
     let n = field_u8(out, n, numbers.number);
     text(out, n, b"\n")
 }
 
 fn database(db: &[u8], out: &mut [u8], at: usize) -> usize {
-    let shaped = header::shape_of(db, Reading::File);
+    let shaped = place::shape_of(db, Reading::File);
     match shaped {
-        ShapeAnswer::Refused(reason) => refused(out, at, reason),
-        ShapeAnswer::Shown(shape) => pages(db, out, at, whole_pages(db.len(), shape.page_size)),
+        ShapeAnswer::Refused(flaw) => refused(out, at, flaw),
+        ShapeAnswer::Shown(shape) => pages(db, out, at, shape.pages),
     }
-}
-
-fn whole_pages(bytes: usize, size: u32) -> usize {
-    if size == 0 {
-        return 0;
-    }
-    bytes / (size as usize)
 }
 
 fn pages(db: &[u8], out: &mut [u8], at: usize, last: usize) -> usize {
@@ -78,7 +72,7 @@ fn pages(db: &[u8], out: &mut [u8], at: usize, last: usize) -> usize {
 
 // Pages of another kind are passed by, and those whose pointers do not end in time.
 fn leaf(db: &[u8], out: &mut [u8], at: usize, number: u32) -> usize {
-    let opened = page::open_page(db, page::file(number));
+    let opened = page::open_page(db, place::file(number));
     match opened {
         OpenAnswer::Refused(_) => at,
         OpenAnswer::Shown(page) => {
@@ -106,12 +100,12 @@ fn cells(db: &[u8], out: &mut [u8], at: usize, number: u32, count: usize) -> usi
 // The old reading counts pages from 0.
 fn old_line(db: &[u8], out: &mut [u8], at: usize, number: u32, i: usize) -> usize {
     let n = start(out, at, number, i, b" old");
-    old::row(db, out, n, row::found(db, page::old(before(number)), i))
+    old::row(db, out, n, row::found(db, place::old(before(number)), i))
 }
 
 fn file_line(db: &[u8], out: &mut [u8], at: usize, number: u32, i: usize) -> usize {
     let n = start(out, at, number, i, b" file");
-    file::row(db, out, n, row::found(db, page::file(number), i))
+    file::row(db, out, n, row::found(db, place::file(number), i))
 }
 
 fn guarded_line(db: &[u8], out: &mut [u8], at: usize, number: u32, i: usize) -> usize {

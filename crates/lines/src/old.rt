@@ -13,17 +13,16 @@ use values::narrow::from_i16;
 use values::narrow::from_i32;
 use values::old::Value;
 use values::part::part;
+use varint::Number;
 
 // The rest of a cell's line: the row number and the values, or the refusal.
 pub fn row(db: &[u8], out: &mut [u8], at: usize, answer: FoundAnswer) -> usize {
     match answer {
         FoundAnswer::Refused(refusal) => refused(out, at, answers::numbers_of(refusal)),
-        FoundAnswer::Shown {
-            kind: _,
-            cell,
-            cursor,
-        } => {
-            let row = cell.row;
+        FoundAnswer::Shown(found) => {
+            let cell = found.cell;
+            let cursor = found.cursor;
+            let row: Number = cell.row;
             let n = field_i64(out, at, fields::signed_of(row.value));
             let n = values(db, out, n, cursor, cell.columns);
             text(out, n, b"\n")

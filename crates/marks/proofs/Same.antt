@@ -1,7 +1,7 @@
 -- Where no mark stands, the old reading takes a cell of a table leaf apart as the file reading does, whatever bytes stand
 -- behind it.
 use Prim.Native.Nat.{ℕ, _+_, _-_, _≤_, _<_}
-use mathlib.Core.Path.{_≡_, refl, sym, ap, _∙_}
+use mathlib.Core.Path.{_≡_, refl, ap, _∙_}
 use mathlib.Core.List.{List, _++_}
 use mathlib.Core.Bool.{Bool, true, false, not, _||_}
 use native.Mathlib.Omega.{arith}
@@ -12,24 +12,27 @@ use borrow.Author.Tests.{ltb-false, eqb-true, not-false}
 use Rattle.laws.specs.Pick.{pick}
 use Rattle.laws.proofs.Never.{never}
 use Rattle.answers.specs.declared.Mark.the-variants as ma
+use Rattle.answers.specs.Answer.{shown}
 use Rattle.varint.specs.declared.Varint.{Varint}
 use Rattle.varint.specs.declared.Varint.the-variants as vi
 use Rattle.varint.specs.declared.Cause.{Cause}
 use Rattle.varint.specs.Varint.{varintOf}
 use Rattle.varint.proofs.Laws.{longer-limit, shorter-limit, bytes-behind, left-behind}
 use Rattle.reading.specs.declared.Reading.the-variants.{Old as old, File as file}
-use Rattle.record.specs.Types.{num, Types, broken, column, typesOf}
+use Rattle.record.specs.Types.{Types, broken, column, typesOf}
+use Rattle.record.specs.Record.{Record}
 use Rattle.record.proofs.Laws.{types-nil, types-next, types-broken}
 use Rattle.record.proofs.Spelt.{Spelt, ended, stopped, further, spelt}
 use Rattle.record.proofs.Room.{more-room, accepted-ends}
 use Rattle.record.proofs.Accepted.{Accepted, accepted, record-again}
 use Rattle.cell.specs.declared.Kind.the-variants.{LeafTable}
-use Rattle.cell.specs.Cell.{cell, cellOf}
+use Rattle.cell.specs.Cell.{Cell, cellOf}
+use Rattle.cell.proofs.Recorded.{recordWith}
 use Rattle.cell.proofs.Leaf.{leaf, leaf-again}
 use Rattle.marks.specs.declared.Marking.the-variants.{Clear, By}
-use Rattle.marks.specs.Marks.{some, long, longType, storedOne, emptyValue, longVarint, lowest}
+use Rattle.marks.specs.Marks.{some, long, longType, storedOne, emptyValue, longVarint, lowest, markOf}
 use Rattle.laws.proofs.Bools.{neither}
-use Rattle.marks.proofs.Behind.{size-on, row-on, payload, beyond, payload-on}
+use Rattle.marks.proofs.Behind.{size-on, key-on, payload, beyond, payload-on}
 
 -- NO MARK: none of the four stands
 
@@ -74,54 +77,57 @@ still-broken s l e = go (varintOf 5 s) refl
   where
     go : (v : Varint) → varintOf 5 s ≡ v → typesOf 5 s ≡ broken
     go (vi.Unfinished d) i = types-broken 5 s l i
-    go (vi.Value t m) i = let f = longer-limit s 5 9 (omega arith) i in never cc
+    go (vi.Value t) i = let f = longer-limit s 5 9 (omega arith) i in never cc
 
 same-types : {s : List ℕ} {ts : Types} → Spelt 9 s ts → some longType ts ≡ false → typesOf 5 s ≡ ts
 same-types ended e = types-nil 5
 same-types (stopped {s} l i) e = still-broken s l i
-same-types (further {s} {t} {m} {rest} i r) e =
-    let d = neither (long m) (some longType rest) e in
-    types-next 5 s (shorter-limit s 5 9 (ltb-false 5 m (d .0)) i) ∙ ap (column (num t m)) (same-types r (d .1))
+same-types (further {s} {t} {rest} i r) e =
+    let d = neither (longType t) (some longType rest) e in
+    types-next 5 s (shorter-limit s 5 9 (ltb-false 5 (t .length) (d .0)) i) ∙ ap (column t) (same-types r (d .1))
 
 -- THE RECORD, where its header size has one byte
 
-one-byte : (q z : List ℕ) {h : ℕ} {ts : Types} {left : ℕ} → Accepted file q h 1 ts left → some longType ts ≡ false
-    → Accepted old (q ++ z) h 1 ts (left + length z)
-one-byte q z {h} {ts} a e =
+same-record : (q z : List ℕ) (c : Record) → c .header .length ≡ 1 → Accepted file q c → some longType (c .types) ≡ false
+    → Accepted old (q ++ z) (record { header = c .header; types = c .types; left = c .left + length z })
+same-record q z c i a e =
+    let h = c .header in
+    let y = drop (h .length) q in
     let f = left-behind q 9 z (a .header) in
-    let g : length (drop 1 q ++ z) - (h - 1) ≡ length (drop 1 q) - (h - 1) + length z = simp length-append (omega (arith, a .room)) in
-    let t : typesOf 5 (take (h - 1) (drop 1 q)) ≡ ts = rw (a .types) at (same-types (spelt 9 (take (h - 1) (drop 1 q))) (rw (a .types) e)) in
-    let w = more-room 0 (length (drop 1 q) - (h - 1)) (length z) ts (accepted-ends _ _ (a .fits)) in
+    let k : h .value - 1 ≡ h .value - h .length = omega arith in
+    let room = a .room in
+    let low = a .low in
+    let g : length (y ++ z) - (h .value - h .length) ≡ length y - (h .value - h .length) + length z = simp length-append (omega arith) in
+    let t : typesOf 5 (take (h .value - h .length) y) ≡ c .types = rw (a .types) at (same-types (spelt 9 (take (h .value - h .length) y)) (rw (a .types) e)) in
+    let w = more-room 0 (length y - (h .value - h .length)) (length z) (c .types) (accepted-ends _ _ (a .fits)) in
     record {
       header = shorter-limit (q ++ z) 5 9 (omega arith) (bytes-behind q 9 z (a .header));
-      low = a .low;
-      room = rw f (simp length-append (omega (arith, a .room)));
-      types = rw (f, take-append-le (h - 1) (drop 1 q) z (a .room)) t;
-      fits = rw (f, g, w);
+      low = omega arith;
+      room = rw (f, k) (simp length-append (omega arith));
+      types = rw (f, k, take-append-le (h .value - h .length) y z room) t;
+      fits = rw (f, k, g, w);
     }
-
-same-record : (q z : List ℕ) {h own : ℕ} {ts : Types} {left : ℕ} → own ≡ 1 → Accepted file q h own ts left → some longType ts ≡ false
-    → Accepted old (q ++ z) h own ts (left + length z)
-same-record q z i a e = rw i (one-byte q z (rw i at a) e)
 
 -- THE CELL
 
-pub same-cell : (u u′ : ℕ) (s z : List ℕ) {child p np v nv h own : ℕ} {ts : Types}
-    → cellOf file LeafTable u s ≡ cell child (num p np) (num v nv) (num h own) ts → lowest np nv own ts ≡ Clear
-    → cellOf old LeafTable u′ (s ++ z) ≡ cell child (num p np) (num v nv) (num h own) ts
-same-cell u u′ s z {child} {np = np} {nv = nv} e m =
+-- a cell with n bytes of payload: the old reading takes all that stands behind the numbers
+abbrev pub withPayload : ℕ → Cell → Cell
+withPayload n c = record { numbers = c .numbers; payload = n; header = c .header; types = c .types; row = c .row }
+
+pub same-cell : (u u′ : ℕ) (s z : List ℕ) {c : Cell} → cellOf file LeafTable u s ≡ shown c → markOf c ≡ Clear
+    → cellOf old LeafTable u′ (s ++ z) ≡ shown (withPayload (length (drop (c .numbers .length) (s ++ z))) c)
+same-cell u u′ s z {c} e m =
     let o = leaf file u s e in
-    let c = clear m in
-    let i : 0 ≡ child = let f = sym (leaf-again file u s o) ∙ e in cc in
+    let k = clear m in
     let a = accepted file (payload u s z o) (o .recorded) in
-    let b = same-record (payload u s z o) (beyond u s z o) (c .narrow) a (c .types) in
-    let l = drop nv (drop np (s ++ z)) in
-    rw (← i)
-    (leaf-again old u′ (s ++ z) (record {
-      size = shorter-limit (s ++ z) 5 9 (c .size) (size-on u s z o);
-      row = shorter-limit (drop np (s ++ z)) 5 9 (c .row) (row-on u s z o);
-      n = length l;
+    let b = same-record (payload u s z o) (beyond u s z o) (recordWith c (o .left)) (k .narrow) a (k .types) in
+    let l = drop (c .numbers .length) (s ++ z) in
+    leaf-again old u′ (s ++ z) {c = withPayload (length l) c} (record {
+      size = shorter-limit (s ++ z) 5 9 (k .size) (size-on u s z o);
+      key = shorter-limit (drop (c .numbers .size .length) (s ++ z)) 5 9 (k .row) (key-on u s z o);
+      numbers = o .numbers;
       payload = refl;
       left = o .left + length (beyond u s z o);
       recorded = rw (take-length l, payload-on u s z o) (record-again old (payload u s z o ++ beyond u s z o) b);
-    }))
+      row = o .row;
+    })

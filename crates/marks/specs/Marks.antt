@@ -4,13 +4,15 @@ use Prim.Native.Nat.{ℕ}
 use mathlib.Core.Bool.{Bool, false, not, _||_}
 use lib.Dec.{ltb, eqb}
 use Rattle.laws.specs.Pick.{pick}
+use Rattle.varint.specs.declared.Number.{Number}
 use Rattle.answers.specs.declared.Mark.the-variants as ma
-use Rattle.record.specs.Types.{Num, num, Types, done, broken, column}
+use Rattle.record.specs.Types.{Types, done, broken, column}
+use Rattle.cell.specs.Cell.{Cell}
 use Rattle.marks.specs.declared.Marking.{Marking}
 use Rattle.marks.specs.declared.Marking.the-variants.{Clear, By}
 
 -- whether some type is so
-abbrev pub some : (Num → Bool) → Types → Bool
+abbrev pub some : (Number → Bool) → Types → Bool
 some f done = false
 some f broken = false
 some f (column t rest) = f t || some f rest
@@ -19,14 +21,14 @@ some f (column t rest) = f t || some f rest
 abbrev pub long : ℕ → Bool
 long n = ltb 5 n
 
-abbrev pub longType : Num → Bool
-longType (num t n) = long n
+abbrev pub longType : Number → Bool
+longType t = long (t .length)
 
-abbrev pub storedOne : Num → Bool
-storedOne (num t n) = eqb t 9
+abbrev pub storedOne : Number → Bool
+storedOne t = eqb (t .value) 9
 
-abbrev pub emptyValue : Num → Bool
-emptyValue (num t n) = eqb t 12 || eqb t 13
+abbrev pub emptyValue : Number → Bool
+emptyValue t = eqb (t .value) 12 || eqb (t .value) 13
 
 -- the payload size took np bytes, the row number nv, the header size own
 abbrev pub longVarint : ℕ → ℕ → ℕ → Types → Bool
@@ -41,3 +43,7 @@ lowestBy isLong own isOne isEmpty =
 
 unfoldable pub lowest : ℕ → ℕ → ℕ → Types → Marking
 lowest np nv own ts = lowestBy (longVarint np nv own ts) own (some storedOne ts) (some emptyValue ts)
+
+-- of a cell
+abbrev pub markOf : Cell → Marking
+markOf c = lowest (c .numbers .size .length) (c .numbers .key .length) (c .header .length) (c .types)

@@ -25,9 +25,11 @@ pub fn mark_of(types: &[u8], limit: usize, size: usize, row: usize, header: usiz
     let mut empty = false;
     while at < types.len() {
         let v = varint::read(&types[at..], limit);
-        let Varint::Value { value, length } = v else {
+        let Varint::Value(serial) = v else {
             return lowest_of(long, header, one, empty);
         };
+        let value = serial.value;
+        let length = serial.length;
         long = long || 5 < length;
         one = one || value == 9;
         empty = empty || value == 12 || value == 13;

@@ -1,5 +1,2 @@
-pub mod Place
+pub mod Kinds
 pub mod Open
-pub mod Entry
-pub mod Page
-pub mod Located

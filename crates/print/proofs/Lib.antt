@@ -1,2 +1,4 @@
 pub mod Signs
 pub mod Spelt
+pub mod Places
+pub mod Gathering

@@ -1,8 +1,9 @@
 // What our programs write with, to standard output: text, numbers and bytes, at once or (`out`) gathered in a buffer.
 //
-// No contract can say what is written, so those of the public functions say nothing: each is proved safe and ending,
-// whatever it is handed. What they write is made by functions whose contracts do say what they make: `magnitude` and
-// `spell` here, and the digits of `io`. A write that fails is not told, as a program has no exit status to tell it by.
+// No contract can say what is written. The public functions here answer nothing, and are proved safe and ending, whatever
+// they are handed; those of `out` promise what they gather. What is written is made by functions whose contracts say what
+// they make: `magnitude`, `digit` and `spell` here, and the digits of `io`. A write that fails is not told, as a program has
+// no exit status to tell it by.
 pub mod out;
 
 ghost use mathlib.Core.Path.{_≡_};
@@ -32,7 +33,7 @@ pub fn signed(z: i64) {
 }
 
 // The number without its sign. The opposite of the least number is no i64, but -1 - z always is.
-pub fn magnitude(z: i64) -> u64
+fn magnitude(z: i64) -> u64
     ensures { λ r. ⌜ r ≡ natAbs z ⌝ }
 {
     if z < 0 {

@@ -1,6 +1,6 @@
 -- A record that is accepted, taken apart once, and put together again.
 use Prim.Native.Nat.{ℕ, _-_, _≤_}
-use mathlib.Core.Path.{_≡_, refl, ap, _∙_}
+use mathlib.Core.Path.{_≡_, refl, _∙_}
 use mathlib.Core.List.{List}
 use mathlib.Core.Bool.{Bool, true, false}
 use lib.Dec.{ltb}
@@ -10,63 +10,76 @@ use Rattle.laws.specs.Pick.{pick}
 use Rattle.laws.proofs.Never.{never}
 use Rattle.reading.specs.declared.Reading.{Reading}
 use Rattle.reading.specs.Reading.{limit}
+use Rattle.varint.specs.declared.Number.{Number}
 use Rattle.varint.specs.declared.Varint.{Varint}
 use Rattle.varint.specs.declared.Varint.the-variants as vi
 use Rattle.varint.specs.Varint.{varintOf}
 use Rattle.answers.specs.declared.Fault.the-variants as fa
+use Rattle.answers.specs.Answer.{shown, _>>=_}
 use Rattle.record.specs.declared.Fit.{Fit}
 use Rattle.record.specs.declared.Fit.the-variants.{Fits, Unfit}
-use Rattle.record.specs.Types.{num, Types, count, walk}
-use Rattle.record.specs.Record.{counted, judged, typesIn, fitted, whole, recordBy, headed, recordOf}
+use Rattle.record.specs.Types.{count, walk}
+use Rattle.record.specs.Record.{Record, headless, counted, judged, typeBytes, typesIn, fitted, found, leftBy, recordOf}
 use Rattle.record.proofs.Count.{fits-count}
 use Rattle.record.proofs.Stages.{fit-laid}
 
--- the bytes q, with the header size h in `own` bytes, these types, and so many bytes behind the values
-pub record Accepted (r : Reading) (q : List ℕ) (h own : ℕ) (ts : Types) (left : ℕ) : Type 0 where
-  pub header : varintOf (limit r) q ≡ vi.Value h own
-  pub low : counted r own ≤ h
-  pub room : h - counted r own ≤ length (drop own q)
-  pub types : typesIn r (counted r own) h (drop own q) ≡ ts
-  pub fits : judged r ts (walk 0 (length (drop own q) - (h - counted r own)) ts) ≡ Fits (count ts) left
+-- types and values that fit: the header's bytes are there
+pub record Headed (r : Reading) (a h : ℕ) (s : List ℕ) (n left : ℕ) : Type 0 where
+  pub low : a ≤ h
+  pub room : h - a ≤ length s
+  pub fits : judged r (typesIn r a h s) (walk 0 (length s - (h - a)) (typesIn r a h s)) ≡ Fits n left
 
-module _ (r : Reading) (q : List ℕ) {h own : ℕ} {ts : Types} {left : ℕ} where
-  pub accepted : recordOf r q ≡ whole (num h own) ts left → Accepted r q h own ts left
-  unfolding recordOf fitted
-  accepted e = by-header (varintOf (limit r) q) refl e
-    where
-      by-tests : (k o : ℕ) → varintOf (limit r) q ≡ vi.Value k o → (below short : Bool) (n : ℕ) → n ≡ count (typesIn r (counted r o) k (drop o q))
-          → ltb k (counted r o) ≡ below → ltb (length (drop o q)) (k - counted r o) ≡ short
-          → pick below (Unfit fa.HeaderUnfit) (pick short (Unfit fa.HeaderUnfit)
-          (judged r (typesIn r (counted r o) k (drop o q)) (walk 0 (length (drop o q) - (k - counted r o)) (typesIn r (counted r o) k (drop o q)))))
-          ≡ Fits n left
-          → Accepted r q k o (typesIn r (counted r o) k (drop o q)) left
-      by-tests k o i true short n c b l d = never cc
-      by-tests k o i false true n c b l d = never cc
-      by-tests k o i false false n c b l d = record {
-        header = i;
-        low = ltb-false k (counted r o) b;
-        room = ltb-false (length (drop o q)) (k - counted r o) l;
-        types = refl;
-        fits = rw c at d;
-      }
+pub fits-headed : (r : Reading) (a h : ℕ) (s : List ℕ) {n left : ℕ} → fitted r a h s ≡ Fits n left → Headed r a h s n left
+unfolding fitted
+fits-headed r a h s {n} {left} e = go (ltb h a) (ltb (length s) (h - a)) refl refl e
+  where
+    go : (below short : Bool) → ltb h a ≡ below → ltb (length s) (h - a) ≡ short
+        → pick below (Unfit fa.HeaderUnfit) (pick short (Unfit fa.HeaderUnfit) (judged r (typesIn r a h s) (walk 0 (length s - (h - a)) (typesIn r a h s)))) ≡ Fits n left
+        → Headed r a h s n left
+    go true short b l d = never cc
+    go false true b l d = never cc
+    go false false b l d = record { low = ltb-false h a b; room = ltb-false (length s) (h - a) l; fits = d }
 
-      by-fit : (k o : ℕ) → varintOf (limit r) q ≡ vi.Value k o → (f : Fit) → fitted r (counted r o) k (drop o q) ≡ f
-          → recordBy (num k o) (typesIn r (counted r o) k (drop o q)) f ≡ whole (num h own) ts left → Accepted r q h own ts left
-      by-fit k o i (Unfit fault) j d = never cc
-      by-fit k o i (Fits n l) j d =
-          let a : k ≡ h = cc in
-          let b : o ≡ own = cc in
-          let c : typesIn r (counted r o) k (drop o q) ≡ ts = cc in
-          let f : l ≡ left = cc in
-          rw (← a, ← b, ← c) (by-tests k o i (ltb k (counted r o)) (ltb (length (drop o q)) (k - counted r o)) n (fits-count r (counted r o) k (drop o q) j) refl refl (j ∙ ap (Fits n) f))
+-- the bytes q hold the record c
+pub record Accepted (r : Reading) (q : List ℕ) (c : Record) : Type 0 where
+  pub header : varintOf (limit r) q ≡ vi.Value (c .header)
+  pub low : counted r (c .header .length) ≤ c .header .value
+  pub room : typeBytes r (c .header) ≤ length (drop (c .header .length) q)
+  pub types : typesIn r (counted r (c .header .length)) (c .header .value) (drop (c .header .length) q) ≡ c .types
+  pub fits : judged r (c .types) (walk 0 (length (drop (c .header .length) q) - typeBytes r (c .header)) (c .types)) ≡ Fits (count (c .types)) (c .left)
 
-      by-header : (v : Varint) → varintOf (limit r) q ≡ v → headed r q v ≡ whole (num h own) ts left → Accepted r q h own ts left
-      by-header (vi.Unfinished c) i d = never cc
-      by-header (vi.Value k o) i d = by-fit k o i (fitted r (counted r o) k (drop o q)) refl d
+module _ (r : Reading) (q : List ℕ) where
+  abbrev rest : Number → List ℕ
+  rest h = drop (h .length) q
 
-  pub record-again : Accepted r q h own ts left → recordOf r q ≡ whole (num h own) ts left
+  abbrev fit : Number → Fit
+  fit h = fitted r (counted r (h .length)) (h .value) (rest h)
+
+  abbrev made : Number → ℕ → Record
+  made h left = record { header = h; types = typesIn r (counted r (h .length)) (h .value) (rest h); left = left }
+
+  pub accepted : {c : Record} → recordOf r q ≡ shown c → Accepted r q c
   unfolding recordOf
-  record-again a =
-      let f = fit-laid r (counted r own) h (drop own q) (a .low) (a .room) in
-      let g : fitted r (counted r own) h (drop own q) ≡ Fits (count ts) left = rw (a .types) at f ∙ a .fits in
+  accepted {c} e = by-header (varintOf (limit r) q) refl e
+    where
+      by-fit : (h : Number) → varintOf (limit r) q ≡ vi.Value h → (f : Fit) → fit h ≡ f
+          → (leftBy f >>= (λ left. shown (made h left))) ≡ shown c → Accepted r q c
+      by-fit h i (Unfit fault) j d = never cc
+      by-fit h i (Fits n left) j d =
+          let k : made h left ≡ c = cc in
+          let o = fits-headed r (counted r (h .length)) (h .value) (rest h) j in
+          rw (← k)
+          (record { header = i; low = o .low; room = o .room; types = refl; fits = rw (fits-count r (counted r (h .length)) (h .value) (rest h) j) at (o .fits) })
+
+      by-header : (v : Varint) → varintOf (limit r) q ≡ v
+          → (found (headless r) v >>= (λ h. leftBy (fit h) >>= (λ left. shown (made h left)))) ≡ shown c → Accepted r q c
+      by-header (vi.Unfinished cause) i d = never cc
+      by-header (vi.Value h) i d = by-fit h i (fit h) refl d
+
+  pub record-again : {c : Record} → Accepted r q c → recordOf r q ≡ shown c
+  unfolding recordOf
+  record-again {c} a =
+      let h = c .header in
+      let f = fit-laid r (counted r (h .length)) (h .value) (rest h) (a .low) (a .room) in
+      let g : fit h ≡ Fits (count (c .types)) (c .left) = rw (a .types) at f ∙ a .fits in
       rw (a .header, g, a .types)

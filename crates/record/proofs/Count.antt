@@ -18,7 +18,7 @@ use Rattle.record.specs.declared.Laid.{Laid}
 use Rattle.record.specs.declared.Laid.the-variants.{Ends, Breaks, Reserved, Passes}
 use Rattle.record.specs.declared.Fit.{Fit}
 use Rattle.record.specs.declared.Fit.the-variants.{Fits, Unfit}
-use Rattle.record.specs.Types.{num, Types, done, broken, column, closed, count, walk}
+use Rattle.record.specs.Types.{Types, done, broken, column, ended, count, walk}
 use Rattle.record.specs.Record.{judged, typesIn, fitted}
 
 -- the columns that a walk passed, or `other` where it was stopped
@@ -32,7 +32,7 @@ walk-passed : (col left : ℕ) (ts : Types) → passed (col + count ts) (walk co
 unfolding walk
 walk-passed col left done = sym (add-zero col)
 walk-passed col left broken = sym (add-zero col)
-walk-passed col left (column (num t n) rest) = go (widthOf t) (λ w. walk-passed (col + 1) (left - w) rest)
+walk-passed col left (column t rest) = go (widthOf (t .value)) (λ w. walk-passed (col + 1) (left - w) rest)
   where
     on : (w : ℕ) (b : Bool) → passed (col + 1 + count rest) (walk (col + 1) (left - w) rest) ≡ col + 1 + count rest
         → passed (col + suc (count rest)) (elim b [ true ↦ Passes col | false ↦ walk (col + 1) (left - w) rest ]) ≡ col + suc (count rest)
@@ -61,12 +61,12 @@ judged-fitting file ts (Ends m left) n e = go (eqb left 0)
     go true = e
     go false = refl
 judged-fitting file ts (Breaks m left) n e = refl
-judged-fitting file ts (Reserved m) n e = go (closed ts)
+judged-fitting file ts (Reserved m) n e = go (ended ts)
   where
     go : (b : Bool) → fitting n (pick b (Unfit (fa.TypeReserved m)) (Unfit fa.HeaderUnfit)) ≡ n
     go true = refl
     go false = refl
-judged-fitting file ts (Passes m) n e = go (closed ts)
+judged-fitting file ts (Passes m) n e = go (ended ts)
   where
     go : (b : Bool) → fitting n (pick b (Unfit (fa.ValueUnfit m)) (Unfit fa.HeaderUnfit)) ≡ n
     go true = refl

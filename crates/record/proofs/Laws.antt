@@ -9,6 +9,7 @@ use lib.Seq.{drop-drop}
 use native.Mathlib.Nat.{le-of-eq}
 use borrow.Author.Tests.{lt-ltb, le-ltb, ne-eqb}
 use Rattle.laws.proofs.Parts.{tail}
+use Rattle.varint.specs.declared.Number.{Number}
 use Rattle.varint.specs.declared.Varint.{Varint}
 use Rattle.varint.specs.declared.Varint.the-variants as vi
 use Rattle.varint.specs.declared.Cause.{Cause}
@@ -17,7 +18,7 @@ use Rattle.varint.proofs.Laws.{length-bounds}
 use Rattle.serial.specs.declared.Width.the-variants as wi
 use Rattle.serial.specs.Serial.{widthOf}
 use Rattle.record.specs.declared.Laid.the-variants.{Reserved, Passes}
-use Rattle.record.specs.Types.{num, Types, done, broken, column, typed, types, typesOf, count, nthType, walk}
+use Rattle.record.specs.Types.{Types, done, broken, column, typed, types, typesOf, count, nthType, walk}
 
 -- TYPES
 
@@ -40,9 +41,9 @@ fuel limit (suc k) (suc j) (b ∷ s) h l = go (varintOf limit (b ∷ s)) refl (�
         → ((m : ℕ) → length (drop m (b ∷ s)) ≤ k → length (drop m (b ∷ s)) ≤ j → types limit k (drop m (b ∷ s)) ≡ types limit j (drop m (b ∷ s)))
         → typed v (λ n. types limit k (drop n (b ∷ s))) ≡ typed v (λ n. types limit j (drop n (b ∷ s)))
     go (vi.Unfinished c) e ih = refl
-    go (vi.Value t n) e ih =
+    go (vi.Value t) e ih =
         let w = length-bounds (b ∷ s) limit e in
-        ap (column (num t n)) (ih n (rw length-drop (omega arith)) (rw length-drop (omega arith)))
+        ap (column t) (ih (t .length) (rw length-drop (omega arith)) (rw length-drop (omega arith)))
 
 pub types-nil : (limit : ℕ) → typesOf limit [] ≡ done
 types-nil limit = fuel-nil limit 0
@@ -54,11 +55,11 @@ opened limit [] h = absurd (omega arith)
 opened limit (b ∷ s) h = let e : suc (length s) - 1 ≡ length s = omega arith in rw e
 
 module _ (limit : ℕ) (s : List ℕ) where
-  pub types-next : {t m : ℕ} → varintOf limit s ≡ vi.Value t m → typesOf limit s ≡ column (num t m) (typesOf limit (drop m s))
-  types-next {t} {m} e =
+  pub types-next : {t : Number} → varintOf limit s ≡ vi.Value t → typesOf limit s ≡ column t (typesOf limit (drop (t .length) s))
+  types-next {t} e =
       let w = length-bounds s limit e in
       opened limit s (omega arith)
-      ∙ rw e (ap (column (num t m)) (fuel limit (length s - 1) (length (drop m s)) (drop m s) (rw length-drop (omega arith)) (le-of-eq refl)))
+      ∙ rw e (ap (column t) (fuel limit (length s - 1) (length (drop (t .length) s)) (drop (t .length) s) (rw length-drop (omega arith)) (le-of-eq refl)))
 
   pub types-broken : {c : Cause} → 0 < length s → varintOf limit s ≡ vi.Unfinished c → typesOf limit s ≡ broken
   types-broken h e = opened limit s h ∙ rw e
@@ -73,12 +74,12 @@ module _ (limit : ℕ) (t : List ℕ) (at : ℕ) where
   pub read-at : {r v : Varint} → r ≡ varintOf limit (take (length t - at) (drop at t)) → r ≡ v → varintOf limit (drop at t) ≡ v
   read-at p q = rw (tail t at) at (sym p) ∙ q
 
-  pub room-at : {x m : ℕ} → at ≤ length t → varintOf limit (drop at t) ≡ vi.Value x m → (1 ≤ m) × (at + m ≤ length t)
+  pub room-at : {n : Number} → at ≤ length t → varintOf limit (drop at t) ≡ vi.Value n → (1 ≤ n .length) × (at + n .length ≤ length t)
   room-at h e = let w = simp length-drop at (length-bounds (drop at t) limit e) in omega arith
 
-  pub types-at : {x m : ℕ} → varintOf limit (drop at t) ≡ vi.Value x m
-      → typesOf limit (drop at t) ≡ column (num x m) (typesOf limit (drop (at + m) t))
-  types-at {x} {m} e = rw drop-drop at (types-next limit (drop at t) e)
+  pub types-at : {n : Number} → varintOf limit (drop at t) ≡ vi.Value n
+      → typesOf limit (drop at t) ≡ column n (typesOf limit (drop (at + n .length) t))
+  types-at e = rw drop-drop at (types-next limit (drop at t) e)
 
   pub types-break : {c : Cause} → at < length t → varintOf limit (drop at t) ≡ vi.Unfinished c → typesOf limit (drop at t) ≡ broken
   types-break h e = types-broken limit (drop at t) (rw length-drop (omega arith)) e
@@ -86,20 +87,20 @@ module _ (limit : ℕ) (t : List ℕ) (at : ℕ) where
   pub types-end : length t ≤ at → typesOf limit (drop at t) ≡ done
   types-end h = rw (drop-of-length-le t h) (types-nil limit)
 
-pub nth-next : (k t m : ℕ) (rest : Types) → nthType (suc k) (column (num t m) rest) ≡ nthType k rest
-nth-next k t m rest = let e : suc k - 1 ≡ k = omega arith in rw (ne-eqb (suc k) 0 (λ z. omega arith), e)
+pub nth-next : (k : ℕ) (t : Number) (rest : Types) → nthType (suc k) (column t rest) ≡ nthType k rest
+nth-next k t rest = let e : suc k - 1 ≡ k = omega arith in rw (ne-eqb (suc k) 0 (λ z. omega arith), e)
 
 -- VALUES
 
-module _ (col left t n : ℕ) (rest : Types) where
-  pub walk-reserved : widthOf t ≡ wi.Reserved → walk col left (column (num t n) rest) ≡ Reserved col
+module _ (col left : ℕ) (t : Number) (rest : Types) where
+  pub walk-reserved : widthOf (t .value) ≡ wi.Reserved → walk col left (column t rest) ≡ Reserved col
   unfolding walk
   walk-reserved e = simp (walk, e)
 
-  pub walk-passes : (w : ℕ) → widthOf t ≡ wi.Bytes w → left < w → walk col left (column (num t n) rest) ≡ Passes col
+  pub walk-passes : (w : ℕ) → widthOf (t .value) ≡ wi.Bytes w → left < w → walk col left (column t rest) ≡ Passes col
   unfolding walk
   walk-passes w e h = simp (walk, e, lt-ltb left w h)
 
-  pub walk-on : (w : ℕ) → widthOf t ≡ wi.Bytes w → w ≤ left → walk col left (column (num t n) rest) ≡ walk (col + 1) (left - w) rest
+  pub walk-on : (w : ℕ) → widthOf (t .value) ≡ wi.Bytes w → w ≤ left → walk col left (column t rest) ≡ walk (col + 1) (left - w) rest
   unfolding walk
   walk-on w e h = simp (walk, e, le-ltb left w h)

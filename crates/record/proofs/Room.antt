@@ -10,6 +10,7 @@ use Rattle.laws.specs.Pick.{pick}
 use Rattle.laws.proofs.Never.{never}
 use Rattle.reading.specs.declared.Reading.{Reading}
 use Rattle.reading.specs.declared.Reading.the-variants.{Old as old, File as file}
+use Rattle.varint.specs.declared.Number.{Number}
 use Rattle.serial.specs.declared.Width.{Width}
 use Rattle.serial.specs.declared.Width.the-variants as wi
 use Rattle.serial.specs.Serial.{widthOf}
@@ -18,28 +19,28 @@ use Rattle.answers.specs.declared.Fault.the-variants as fa
 use Rattle.record.specs.declared.Laid.{Laid}
 use Rattle.record.specs.declared.Laid.the-variants.{Ends, Breaks, Reserved, Passes}
 use Rattle.record.specs.declared.Fit.the-variants.{Fits, Unfit}
-use Rattle.record.specs.Types.{num, Types, done, broken, column, closed, walk}
+use Rattle.record.specs.Types.{Types, done, broken, column, ended, walk}
 use Rattle.record.specs.Record.{fileJudged, judged}
 use Rattle.record.proofs.Laws.{walk-on}
 
 -- a column that a walk passed which comes to something of P: its value has a width, and room
-pub record Passed (P : Laid → Type 0) (col left t : ℕ) (rest : Types) : Type 0 where
+pub record Passed (P : Laid → Type 0) (col left : ℕ) (t : Number) (rest : Types) : Type 0 where
   pub width : ℕ
-  pub has : widthOf t ≡ wi.Bytes width
+  pub has : widthOf (t .value) ≡ wi.Bytes width
   pub room : width ≤ left
   pub on : P (walk (col + 1) (left - width) rest)
 
 pub passed : (P : Laid → Type 0) → ((col : ℕ) → P (Reserved col) → ⊥) → ((col : ℕ) → P (Passes col) → ⊥)
-    → (col left t m : ℕ) (rest : Types) → P (walk col left (column (num t m) rest)) → Passed P col left t rest
+    → (col left : ℕ) (t : Number) (rest : Types) → P (walk col left (column t rest)) → Passed P col left t rest
 unfolding walk
-passed P reserved passes col left t m rest p = by-width (widthOf t) refl p
+passed P reserved passes col left t rest p = by-width (widthOf (t .value)) refl p
   where
-    by-room : (w : ℕ) → widthOf t ≡ wi.Bytes w → (b : Bool) → ltb left w ≡ b
+    by-room : (w : ℕ) → widthOf (t .value) ≡ wi.Bytes w → (b : Bool) → ltb left w ≡ b
         → P (elim b [ true ↦ Passes col | false ↦ walk (col + 1) (left - w) rest ]) → Passed P col left t rest
     by-room w i true j d = absurd (passes col d)
     by-room w i false j d = record { width = w; has = i; room = ltb-false left w j; on = d }
 
-    by-width : (x : Width) → widthOf t ≡ x
+    by-width : (x : Width) → widthOf (t .value) ≡ x
         → P (elim x [ wi.Bytes w ↦ elim (ltb left w) [ true ↦ Passes col | false ↦ walk (col + 1) (left - w) rest ] | wi.Reserved ↦ Reserved col ])
         → Passed P col left t rest
     by-width wi.Reserved i d = absurd (reserved col d)
@@ -51,24 +52,24 @@ pub more-room : (col left d : ℕ) (ts : Types) {n l : ℕ} → walk col left ts
 unfolding walk
 more-room col left d done {n} {l} e = let f : left ≡ l = cc in let g : col ≡ n = cc in rw (f, g)
 more-room col left d broken e = never cc
-more-room col left d (column (num t m) rest) {n} {l} e =
-    let p = passed (λ x. x ≡ Ends n l) (λ k d. never cc) (λ k d. never cc) col left t m rest e in
+more-room col left d (column t rest) {n} {l} e =
+    let p = passed (λ x. x ≡ Ends n l) (λ k d. never cc) (λ k d. never cc) col left t rest e in
     let f : left + d - p .width ≡ left - p .width + d = omega (arith, p .room) in
-    walk-on col (left + d) t m rest (p .width) (p .has) (omega (arith, p .room)) ∙ rw f (more-room (col + 1) (left - p .width) d rest (p .on))
+    walk-on col (left + d) t rest (p .width) (p .has) (omega (arith, p .room)) ∙ rw f (more-room (col + 1) (left - p .width) d rest (p .on))
 
 unfit : {A : Type 0} (b : Bool) (f g : Fault) {n l : ℕ} → pick b (Unfit f) (Unfit g) ≡ Fits n l → A
 unfit true f g e = never cc
 unfit false f g e = never cc
 
-pub accepted-ends : (ended : Bool) (x : Laid) {n l : ℕ} → fileJudged ended x ≡ Fits n l → x ≡ Ends n l
-accepted-ends ended (Ends m left) {n} {l} e = go (eqb left 0) e
+pub accepted-ends : (end : Bool) (x : Laid) {n l : ℕ} → fileJudged end x ≡ Fits n l → x ≡ Ends n l
+accepted-ends end (Ends m left) {n} {l} e = go (eqb left 0) e
   where
     go : (b : Bool) → pick b (Fits m left) (Unfit (fa.ValueUnfit m)) ≡ Fits n l → Ends m left ≡ Ends n l
     go true d = cc
     go false d = never cc
-accepted-ends ended (Breaks m left) e = never cc
-accepted-ends ended (Reserved m) e = unfit ended (fa.TypeReserved m) fa.HeaderUnfit e
-accepted-ends ended (Passes m) e = unfit ended (fa.ValueUnfit m) fa.HeaderUnfit e
+accepted-ends end (Breaks m left) e = never cc
+accepted-ends end (Reserved m) e = unfit end (fa.TypeReserved m) fa.HeaderUnfit e
+accepted-ends end (Passes m) e = unfit end (fa.ValueUnfit m) fa.HeaderUnfit e
 
 -- VALUES THAT FIT: a walk came past every one
 
@@ -83,5 +84,5 @@ fits-past r ts (Ends m left) e = tt
 fits-past r ts (Breaks m left) e = tt
 fits-past old ts (Reserved m) e = never cc
 fits-past old ts (Passes m) e = never cc
-fits-past file ts (Reserved m) e = unfit (closed ts) (fa.TypeReserved m) fa.HeaderUnfit e
-fits-past file ts (Passes m) e = unfit (closed ts) (fa.ValueUnfit m) fa.HeaderUnfit e
+fits-past file ts (Reserved m) e = unfit (ended ts) (fa.TypeReserved m) fa.HeaderUnfit e
+fits-past file ts (Passes m) e = unfit (ended ts) (fa.ValueUnfit m) fa.HeaderUnfit e

@@ -8,6 +8,7 @@ use Rattle.reading.specs.declared.Reading.{Reading}
 use Rattle.reading.specs.declared.Reading.the-variants.{Old as old, File as file}
 use Rattle.reading.specs.Reading.{limit}
 use Rattle.varint.specs.declared.Cause.{Cause}
+use Rattle.varint.specs.declared.Number.{Number}
 use Rattle.varint.specs.declared.Varint.the-variants as vi
 use Rattle.varint.specs.Varint.{varintOf}
 use Rattle.answers.specs.declared.Fault.{Fault}
@@ -15,8 +16,8 @@ use Rattle.answers.specs.declared.Fault.the-variants as fa
 use Rattle.record.specs.declared.Laid.{Laid}
 use Rattle.record.specs.declared.Fit.the-variants.{Fits, Unfit}
 use Rattle.record.specs.declared.RecordAnswer.the-variants as ra
-use Rattle.record.specs.Types.{Types, closed, count, walk}
-use Rattle.record.specs.Record.{headless, counted, oldJudged, fileJudged, judged, typesIn, fitted, recordOf, answerOf}
+use Rattle.record.specs.Types.{Types, ended, count, walk}
+use Rattle.record.specs.Record.{headless, counted, oldJudged, fileJudged, judged, valuesAt, typesIn, fitted, recordOf, answerOf}
 
 -- the header's bytes, and how all lies in them
 module _ (r : Reading) (a h : ℕ) (s : List ℕ) where
@@ -36,21 +37,21 @@ module _ (r : Reading) (a h : ℕ) (s : List ℕ) where
 pub judged-old : {r : Reading} → r ≡ old → (ts : Types) (x : Laid) → judged r ts x ≡ oldJudged x
 judged-old e ts x = rw e
 
-pub judged-file : {r : Reading} → r ≡ file → (ts : Types) (x : Laid) → judged r ts x ≡ fileJudged (closed ts) x
+pub judged-file : {r : Reading} → r ≡ file → (ts : Types) (x : Laid) → judged r ts x ≡ fileJudged (ended ts) x
 judged-file e ts x = rw e
 
 -- the header size, and what follows it
 module _ (r : Reading) (q : List ℕ) where
-  pub record-headless : {c : Cause} → varintOf (limit r) q ≡ vi.Unfinished c → answerOf (recordOf r q) ≡ ra.Faulty (headless r)
+  pub record-headless : {c : Cause} → varintOf (limit r) q ≡ vi.Unfinished c → answerOf r (recordOf r q) ≡ ra.Faulty (headless r)
   unfolding recordOf
   record-headless e = rw e
 
-  module _ {h own : ℕ} (e : varintOf (limit r) q ≡ vi.Value h own) where
-    pub record-unfit : {fault : Fault} → fitted r (counted r own) h (drop own q) ≡ Unfit fault → answerOf (recordOf r q) ≡ ra.Faulty fault
+  module _ {h : Number} (e : varintOf (limit r) q ≡ vi.Value h) where
+    pub record-unfit : {fault : Fault} → fitted r (counted r (h .length)) (h .value) (drop (h .length) q) ≡ Unfit fault → answerOf r (recordOf r q) ≡ ra.Faulty fault
     unfolding recordOf
     record-unfit f = rw (e, f)
 
-    pub record-whole : {col left : ℕ} → fitted r (counted r own) h (drop own q) ≡ Fits col left
-        → answerOf (recordOf r q) ≡ ra.Whole h own (count (typesIn r (counted r own) h (drop own q))) left
+    pub record-whole : {col left : ℕ} → fitted r (counted r (h .length)) (h .value) (drop (h .length) q) ≡ Fits col left
+        → answerOf r (recordOf r q) ≡ ra.Whole (record { header = h; values = valuesAt r h; columns = count (typesIn r (counted r (h .length)) (h .value) (drop (h .length) q)); left = left })
     unfolding recordOf
     record-whole f = rw (e, f)

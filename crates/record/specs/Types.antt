@@ -9,6 +9,7 @@ use mathlib.Core.Bool.{Bool, true, false}
 use lib.Dec.{ltb, eqb}
 use lib.ListN.{length, drop}
 use Rattle.laws.specs.Pick.{pick}
+use Rattle.varint.specs.declared.Number.{Number}
 use Rattle.varint.specs.declared.Varint.{Varint}
 use Rattle.varint.specs.declared.Varint.the-variants as vi
 use Rattle.varint.specs.Varint.{varintOf}
@@ -17,19 +18,15 @@ use Rattle.serial.specs.Serial.{widthOf}
 use Rattle.record.specs.declared.Laid.{Laid}
 use Rattle.record.specs.declared.Laid.the-variants.{Ends, Breaks, Reserved, Passes}
 
--- a number, and how many bytes its varint took
-pub data Num : Type 0 where
-  num : ℕ → ℕ → Num
-
 -- the types that some bytes hold: to their end, or up to a varint that has no end there
 pub data Types : Type 0 where
   done : Types
   broken : Types
-  column : Num → Types → Types
+  column : Number → Types → Types
 
 -- a type, and the rest behind its bytes
 abbrev pub typed : Varint → (ℕ → Types) → Types
-typed (vi.Value t n) rest = column (num t n) (rest n)
+typed (vi.Value t) rest = column t (rest (t .length))
 typed (vi.Unfinished c) rest = broken
 
 -- at most `most` types
@@ -52,20 +49,20 @@ count (column t rest) = suc (count rest)
 abbrev pub nthType : ℕ → Types → ℕ
 nthType k done = 0
 nthType k broken = 0
-nthType k (column (num t n) rest) = pick (eqb k 0) t (nthType (k - 1) rest)
+nthType k (column t rest) = pick (eqb k 0) (t .value) (nthType (k - 1) rest)
 
 -- whether the types end where their bytes do
-abbrev pub closed : Types → Bool
-closed done = true
-closed broken = false
-closed (column t rest) = closed rest
+abbrev pub ended : Types → Bool
+ended done = true
+ended broken = false
+ended (column t rest) = ended rest
 
 -- how the values of the types lie in `left` bytes, from column `col` on: each behind the one before
 unfoldable pub walk : ℕ → ℕ → Types → Laid
 walk col left done = Ends col left
 walk col left broken = Breaks col left
-walk col left (column (num t n) rest) =
-    elim (widthOf t) [
+walk col left (column t rest) =
+    elim (widthOf (t .value)) [
       | wi.Bytes w ↦ elim (ltb left w) [ true ↦ Passes col | false ↦ walk (col + 1) (left - w) rest ]
       | wi.Reserved ↦ Reserved col
     ]

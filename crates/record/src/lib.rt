@@ -3,12 +3,13 @@
 // A record reader is handed the bytes from the header size on (file: the payload; old: the rest of the page) and sees no
 // page. From the file format, 2.1 "Record Format", and the Rust's `column_types` to `table_cell_payload`.
 ghost use mathlib.Core.Path.{_≡_};
-ghost use Rattle.record.specs.Types.{typesOf, closed, walk};
+ghost use Rattle.record.specs.Types.{typesOf, ended, walk};
 ghost use Rattle.record.specs.Record.{headless, counted, oldJudged, fileJudged, fitted, recordOf, answerOf};
 use answers::Fault;
 use reading::Reading;
 use reading::limit_of;
 use serial::Width;
+use varint::Number;
 use varint::Varint;
 
 // How the values of a header's types lie in the bytes behind it: columns, and bytes left over.
@@ -25,28 +26,32 @@ pub enum Fit {
     Unfit(Fault),
 }
 
+// A record that is accepted.
+pub struct Record {
+    // The header's size, and the bytes that it took.
+    pub header: Number,
+    // Where its values begin.
+    pub values: usize,
+    pub columns: usize,
+    // The bytes behind the values.
+    pub left: u64,
+}
+
 pub enum RecordAnswer {
-    Whole {
-        header: u64,
-        // The bytes that the header size took.
-        own: usize,
-        columns: usize,
-        // The bytes behind the values.
-        left: u64,
-    },
+    Whole(Record),
     Faulty(Fault),
 }
 
 // Whether the types in `t` end where it does.
 pub fn types_end(t: &[u8], limit: usize) -> bool
-    ensures { λ r. ⌜ r ≡ closed (typesOf limit (now (t .entry))) ⌝ }
+    ensures { λ r. ⌜ r ≡ ended (typesOf limit (now (t .entry))) ⌝ }
 {
     let mut at: usize = 0;
     while at < t.len() {
         let v = varint::read(&t[at..], limit);
         match v {
-            Varint::Value { value: _, length } => {
-                at += length;
+            Varint::Value(found) => {
+                at += found.length;
             }
             Varint::Unfinished(_) => {
                 return false;
@@ -66,15 +71,15 @@ pub fn lay(t: &[u8], limit: usize, room: u64) -> Laid
     while at < t.len() {
         let v = varint::read(&t[at..], limit);
         match v {
-            Varint::Value { value, length } => {
-                let width = serial::width_of(value);
+            Varint::Value(found) => {
+                let width = serial::width_of(found.value);
                 match width {
                     Width::Bytes(w) => {
                         if left < w {
                             return Laid::Passes { column: col };
                         }
                         left -= w;
-                        at += length;
+                        at += found.length;
                         col += 1;
                     }
                     Width::Reserved => {
@@ -105,7 +110,7 @@ fn old_judged(laid: Laid) -> Fit
 // What the format makes of them. That the types end is looked for only where something else is wrong: where a walk ends,
 // they do.
 fn file_judged(t: &[u8], laid: Laid) -> Fit
-    ensures { λ r. ⌜ r ≡ fileJudged (closed (typesOf 9 (now (t .entry)))) laid ⌝ }
+    ensures { λ r. ⌜ r ≡ fileJudged (ended (typesOf 9 (now (t .entry)))) laid ⌝ }
 {
     match laid {
         Laid::Ends { columns, left } => {
@@ -156,20 +161,21 @@ pub fn fit_of(s: &[u8], reading: Reading, a: u64, h: u64) -> Fit
 
 // The record that `q` is (file) or that begins it (old).
 pub fn record_of(q: &[u8], reading: Reading) -> RecordAnswer
-    ensures { λ r. ⌜ r ≡ answerOf (recordOf reading (now (q .entry))) ⌝ }
+    ensures { λ r. ⌜ r ≡ answerOf reading (recordOf reading (now (q .entry))) ⌝ }
 {
-    let Varint::Value { value, length } = varint::read(q, limit_of(reading)) else {
+    let Varint::Value(header) = varint::read(q, limit_of(reading)) else {
         return RecordAnswer::Faulty(headless_fault(reading));
     };
-    let a = counted_of(reading, length);
-    let fitting = fit_of(&q[length..], reading, a, value);
+    let own = header.length;
+    let a = counted_of(reading, own);
+    let fitting = fit_of(&q[own..], reading, a, header.value);
     match fitting {
-        Fit::Fits { columns, left } => RecordAnswer::Whole {
-            header: value,
-            own: length,
+        Fit::Fits { columns, left } => RecordAnswer::Whole(Record {
+            header,
+            values: own + (header.value - a) as usize,
             columns,
             left,
-        },
+        }),
         Fit::Unfit(fault) => RecordAnswer::Faulty(fault),
     }
 }

@@ -1,4 +1,3 @@
-pub mod Agrees
 pub mod Placed
 pub mod Told
 pub mod Columns

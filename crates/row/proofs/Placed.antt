@@ -1,132 +1,81 @@
--- Where the columns of a located cell stand: its cursor lies in the bytes, before it are the cell's own types, and the values
--- fit between it and its end.
+-- Where the payload of a located cell stands: it lies in the bytes, and holds the cell's own record. So the cursor goes along the
+-- cell's types.
 use Prim.Native.Nat.{ℕ, _+_, _-_, _≤_}
-use mathlib.Core.Path.{_≡_, refl, sym, ap, subst, _∙_}
+use mathlib.Core.Path.{_≡_, refl, ap, _∙_}
 use mathlib.Core.List.{List}
-use mathlib.Core.Bool.{Bool, true, false}
 use native.Mathlib.Omega.{arith}
 use lib.ListN.{length, take, drop}
 use lib.Seq.{drop-drop}
-use Rattle.laws.specs.Pick.{pick}
-use Rattle.laws.proofs.Never.{never}
 use Rattle.laws.proofs.Parts.{part}
-use Rattle.answers.specs.declared.Reason.the-variants as re
-use Rattle.answers.specs.declared.Refusal.the-variants.{Plain}
-use Rattle.reading.specs.declared.Reading.{Reading}
-use Rattle.reading.specs.declared.Reading.the-variants.{Old as old, File as file}
-use Rattle.reading.specs.Reading.{limit}
-use Rattle.record.specs.declared.Fit.the-variants.{Fits}
-use Rattle.record.specs.Types.{typesOf, count, walk}
-use Rattle.record.specs.Record.{counted, judged}
-use Rattle.cell.specs.declared.Cell as dc
-use Rattle.cell.specs.Cell.{cell, numOf, cellOf}
-use Rattle.cell.specs.Layout.{payloadAt, valuesAt, valuesEnd}
-use Rattle.cell.proofs.Inside.{Inside, inside}
-use Rattle.cell.proofs.Kept.{Kept, kept}
-use Rattle.columns.specs.Columns.{typesAt}
+use Rattle.answers.specs.declared.Refusal.{Refusal}
+use Rattle.answers.specs.Answer.{Answer, refused, shown}
+use Rattle.cell.proofs.Inside as cell
+use Rattle.columns.proofs.Opened.{cursor-slots}
+use Rattle.place.specs.declared.Page.{Page}
+use Rattle.place.specs.Place.{pageAt}
 use Rattle.page.specs.declared.Open.{Open}
-use Rattle.page.specs.declared.OpenAnswer.the-variants as oa
-use Rattle.page.specs.declared.Located.the-variants as lo
-use Rattle.page.specs.Place.{pageAt}
-use Rattle.page.specs.Entry.{partAt}
-use Rattle.page.specs.Located.{locatedIn, locatedOf, liesIn, againOf}
-use Rattle.page.proofs.Opened.{Opened, end-short, part-length, open-fits}
-use Rattle.page.proofs.Found.{Held, opened-found, found}
-use Rattle.page.proofs.Again.{lies-opened}
-use Rattle.row.specs.Row.{cursorIn, Lying}
+use Rattle.cells.specs.Pointers.{partAt}
+use Rattle.cells.specs.Located.{Located, locatedIn, locatedOf}
+use Rattle.cells.proofs.Laws.{Held, held, part-length, steps, toldOf}
+use Rattle.row.specs.Found.{payloadFrom, foundBy, Lying}
+use Rattle.row.specs.Column.{slotThen, columnBy, columnOf, columnFrom}
 
-pub record Placed (o : Open) (p : ℕ) (c : dc.Cell) (db : List ℕ) : Type 0 where
-  pub lying : Lying o p c (length db)
-  pub is : cellOf (o .reading) (o .kind) (o .end) (partAt o p (pageAt (o .at) (o .size) db))
-      ≡ cell (c .child) (numOf (c .size)) (numOf (c .row)) (numOf (c .header)) (typesAt (cursorIn o p c) db)
-  pub columns : count (typesAt (cursorIn o p c) db) ≡ c .columns
-  pub left : ℕ
-  pub fits : judged (o .reading) (typesAt (cursorIn o p c) db) (walk 0 (cursorIn o p c .end - cursorIn o p c .value) (typesAt (cursorIn o p c) db))
-      ≡ Fits (count (typesAt (cursorIn o p c) db)) left
+pub record Placed (l : Located) (db : List ℕ) : Type 0 where
+  pub within : payloadFrom l + l .cell .payload ≤ length db
+  pub held : cell.Held (l .opened .page .reading) (take (l .cell .payload) (drop (payloadFrom l) db)) (l .cell)
 
--- an end in a part that begins at `from`, counted from before it
-pub end-from : (r : Reading) (from pay size n end : ℕ) → from + n ≡ end → valuesEnd r (from + pay) size end ≡ from + valuesEnd r pay size n
-end-from old from pay size n end e = sym e
-end-from file from pay size n end e = omega arith
-
-module _ (o : Open) (p : ℕ) (c : dc.Cell) (db : List ℕ) (op : Opened o db) (held : Held o p (pageAt (o .at) (o .size) db) c) where
-  abbrev page : List ℕ
-  page = pageAt (o .at) (o .size) db
-
+module _ (o : Open) (i : ℕ) (db : List ℕ) {l : Located} (h : Held o i db l) where
   abbrev s : List ℕ
-  s = partAt o p page
+  s = partAt o (l .pointer) (pageAt (o .at) (o .size) db)
 
-  abbrev pay : ℕ
-  pay = payloadAt (o .kind) (c .size .length) (c .row .length)
+  abbrev n : ℕ
+  n = l .cell .numbers .length
 
-  abbrev own : ℕ
-  own = c .header .length
+  lies : cell.Inside (o .page .reading) (o .kind) s (l .cell)
+  lies = cell.inside (o .page .reading) (o .kind) (o .end) s (h .cell)
 
-  abbrev m : ℕ
-  m = c .header .value - counted (o .reading) own
+  within : l .pointer + (n + l .cell .payload) ≤ o .end
+  within = let a = lies .within in let b = part-length o db (h .lies) (l .pointer) in omega (arith, h .within)
 
-  k : Kept (cellOf (o .reading) (o .kind) (o .end) s) c
-  k = kept (cellOf (o .reading) (o .kind) (o .end) s) (held .shown)
+  -- the payload in the part of the page is the payload in the bytes
+  payload-is : take (l .cell .payload) (drop n s) ≡ take (l .cell .payload) (drop (o .at + l .pointer + n) db)
+  payload-is =
+      let w = within in
+      let short = h .lies .short in
+      let page = pageAt (o .at) (o .size) db in
+      let e : o .at + (l .pointer + n) ≡ o .at + l .pointer + n = omega arith in
+      part (l .cell .payload) n (o .end - l .pointer) (drop (l .pointer) page) (omega arith)
+      ∙ ap (take (l .cell .payload)) (drop-drop n (l .pointer) page)
+      ∙ part (l .cell .payload) (l .pointer + n) (o .size) (drop (o .at) db) (omega arith)
+      ∙ ap (take (l .cell .payload)) (drop-drop (l .pointer + n) (o .at) db ∙ ap (λ (m : ℕ). drop m db) e)
 
-  lies : Inside (o .reading) (o .kind) s (c .size .value) (c .size .length) (c .row .length) (c .header .value) own (k .ts)
-  lies = inside (o .reading) (o .kind) (o .end) s (k .is)
-
-  short : o .end ≤ o .size
-  short = end-short o db op
-
-  s-length : length s ≡ o .end - p
-  s-length = part-length o db op p
-
-  -- the end of the values
-  end-is : cursorIn o p c .end ≡ o .at + p + valuesEnd (o .reading) pay (c .size .value) (length s)
-  end-is = end-from (o .reading) (o .at + p) pay (c .size .value) (length s) (o .at + o .end) (rw s-length (omega (arith, held .within)))
-
-  within : pay + own + m ≤ length s
-  within = let a = lies .within in let b = lies .ends in omega arith
-
-  -- the types of the part are those of the bytes
-  types-are : take m (drop (pay + own) s) ≡ take (cursorIn o p c .stop - cursorIn o p c .at) (drop (cursorIn o p c .at) db)
-  types-are =
-      let w = rw s-length at within in
-      let x : cursorIn o p c .stop - cursorIn o p c .at ≡ m = omega arith in
-      let y : cursorIn o p c .at ≡ o .at + (p + (pay + own)) = omega arith in
-      part m (pay + own) (o .end - p) (drop p page) (omega arith)
-      ∙ ap (take m) (drop-drop (pay + own) p page)
-      ∙ part m (p + (pay + own)) (o .size) (drop (o .at) db) (omega (arith, short, held .within))
-      ∙ rw (x, y) (ap (take m) (drop-drop (p + (pay + own)) (o .at) db))
-
-  same : k .ts ≡ typesAt (cursorIn o p c) db
-  same = lies .types ∙ ap (typesOf (limit (o .reading))) types-are
-
-  pub placed-in : Placed o p c db
-  placed-in =
-      let e = end-is in
-      let a = lies .within in
-      let d : cursorIn o p c .end - cursorIn o p c .value
-      ≡ valuesEnd (o .reading) pay (c .size .value) (length s) - valuesAt (o .reading) pay (c .header .value) own = rw e (omega arith) in
+  pub held-placed : Placed l db
+  held-placed =
+      let w = within in
       record {
-        lying = (omega (arith, op .there, short), rw e (omega arith), rw e (omega (arith, lies .ends, s-length, short, op .there, held .within)));
-        is = k .is ∙ ap (cell (c .child) (numOf (c .size)) (numOf (c .row)) (numOf (c .header))) same;
-        columns = rw (← same) (k .counted);
-        left = lies .left;
-        fits = rw (← same, d) (lies .fits);
+        within = rw (h .opened) (omega (arith, h .lies .short, h .lies .there));
+        held = rw (h .opened, ← payload-is) (lies .held);
       }
 
-pub placed : (key i : ℕ) (db : List ℕ) {o : Open} {p : ℕ} {c : dc.Cell} → locatedOf key i db ≡ lo.Shown o p c → Placed o p c db
-placed key i db {o} {p} {c} e =
-    let f = found key i db e in
-    placed-in o p c db (open-fits key db o (f .opened)) (f .held)
+pub placed-in : (o : Open) (i : ℕ) (db : List ℕ) {l : Located} → locatedIn o i db ≡ shown l → Placed l db
+placed-in o i db e = held-placed o i db (held o i db e)
 
--- of a page that was open already
-pub placed-again : (o : Open) (i : ℕ) (db : List ℕ) {x : Open} {p : ℕ} {c : dc.Cell} → againOf o i db ≡ lo.Shown x p c → Placed x p c db
-unfolding againOf
-placed-again o i db {x} {p} {c} e = go (liesIn (length db) o) refl e
+pub placed : (page : Page) (i : ℕ) (db : List ℕ) {l : Located} → locatedOf page i db ≡ shown l → Placed l db
+placed page i db e = let s = steps page i db e in placed-in (s .o) i db (s .second)
+
+-- what the code asks of it
+pub lying : (l : Located) (db : List ℕ) → Placed l db → Lying (toldOf l) (length db)
+lying l db p = (p .within, p .held .values, omega arith)
+
+-- along the cursor are the columns of the definition
+pub column-along : (k : ℕ) (l : Located) (db : List ℕ) → Placed l db → columnFrom k db (foundBy (shown l)) ≡ columnBy k (shown l)
+column-along k l db p =
+    ap (slotThen (l .opened .page)) (cursor-slots (l .opened .page .reading) (payloadFrom l) (l .cell) db (p .held) (p .within) k)
+
+pub found-column : (k : ℕ) (page : Page) (i : ℕ) (db : List ℕ) → columnFrom k db (foundBy (locatedOf page i db)) ≡ columnOf page i k db
+unfolding columnOf
+found-column k page i db = go (locatedOf page i db) refl
   where
-    go : (b : Bool) → liesIn (length db) o ≡ b → pick b (locatedIn i o (pageAt (o .at) (o .size) db)) (lo.Refused (Plain re.PageAbsent)) ≡ lo.Shown x p c
-        → Placed x p c db
-    go false l d = never cc
-    go true l d =
-        let f = opened-found i db x p c (oa.Shown o) d in
-        let g = f .opened in
-        let q : o ≡ x = cc in
-        placed-in x p c db (subst (λ (y : Open). Opened y db) q (lies-opened o db l)) (f .held)
+    go : (x : Answer Refusal Located) → locatedOf page i db ≡ x → columnFrom k db (foundBy x) ≡ columnBy k x
+    go (refused refusal) e = refl
+    go (shown l) e = column-along k l db (placed page i db e)

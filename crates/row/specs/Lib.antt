@@ -1,5 +1,6 @@
+pub mod Found
 pub mod Row
+pub mod Column
 pub mod Old
 pub mod File
 pub mod Columns
-pub mod Agreement

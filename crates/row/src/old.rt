@@ -25,8 +25,8 @@ pub fn shown(db: &[u8], column: ColumnAnswer) -> ValueAnswer
 {
     match column {
         ColumnAnswer::Refused(refusal) => ValueAnswer::Refused(refusal),
-        ColumnAnswer::Shown { kind, at } => {
-            ValueAnswer::Shown(value_of(kind, crate::from(db, at), at))
+        ColumnAnswer::Shown { serial, at } => {
+            ValueAnswer::Shown(value_of(serial, parts::behind(db, at), at))
         }
     }
 }
@@ -35,18 +35,18 @@ pub fn shown(db: &[u8], column: ColumnAnswer) -> ValueAnswer
 pub fn value(db: &[u8], number: u32, i: usize, k: usize) -> ValueAnswer
     ensures { λ r. ⌜ r ≡ shownOf number i k (now (db .entry)) ⌝ }
 {
-    shown(db, crate::column(db, page::old(number), i, k))
+    shown(db, crate::column(db, place::old(number), i, k))
 }
 
 // The value at a cursor.
 pub fn next(db: &[u8], cursor: Cursor) -> NextAnswer
     ensures { λ r. ⌜ r ≡ nextOf cursor (now (db .entry)) ⌝ }
 {
-    let reached = columns::step(db, cursor);
+    let reached = cursor.step(db);
     match reached {
         Stepped::Done => NextAnswer::Done,
-        Stepped::Column { kind, at, next } => NextAnswer::Column {
-            value: value_of(kind, crate::from(db, at), at),
+        Stepped::Column { serial, at, next } => NextAnswer::Column {
+            value: value_of(serial, parts::behind(db, at), at),
             next,
         },
     }

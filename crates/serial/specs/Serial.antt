@@ -13,10 +13,10 @@ use Rattle.serial.specs.declared.Width.the-variants.{Bytes, Reserved}
 
 -- from 12 on
 abbrev pub isBlob : ℕ → Bool
-isBlob kind = eqb (kind % 2) 0
+isBlob serial = eqb (serial % 2) 0
 
 abbrev pub lengthOf : ℕ → ℕ
-lengthOf kind = pick (isBlob kind) ((kind - 12) / 2) ((kind - 13) / 2)
+lengthOf serial = pick (isBlob serial) ((serial - 12) / 2) ((serial - 13) / 2)
 
 unfoldable pub widthOf : ℕ → Width
-widthOf kind = pick (ltb kind 10) (Bytes (getD widths kind 0)) (pick (ltb kind 12) Reserved (Bytes (lengthOf kind)))
+widthOf serial = pick (ltb serial 10) (Bytes (getD widths serial 0)) (pick (ltb serial 12) Reserved (Bytes (lengthOf serial)))

@@ -8,12 +8,13 @@ use crate::telling::Telling;
 use crate::telling::refused;
 use page::Open;
 use page::OpenAnswer;
+use parts::behind;
 use print::out::field;
 use print::out::field_i64;
 use print::out::field_u32;
 use print::out::text;
 use row::CountAnswer;
-use row::RowAnswer;
+use row::RowNumberAnswer;
 use row::old::ValueAnswer;
 
 // How many cells of a page are asked for, the first ones.
@@ -23,7 +24,7 @@ const MOST: usize = 64;
 const FEW: usize = 32;
 
 pub fn cells(db: &[u8], out: &mut [u8], at: usize, telling: Telling, number: u32) -> usize {
-    let answer = page::open_page(db, page::old(number));
+    let answer = page::open_page(db, place::old(number));
     match answer {
         OpenAnswer::Refused(_) => at,
         OpenAnswer::Shown(opened) => each(db, out, at, telling, number, opened),
@@ -57,19 +58,16 @@ fn one(
     if opened.cells <= i {
         return at;
     }
-    if pointer(db, opened, i) < pointers_end(opened.from, head(opened), opened.cells) {
+    if pointer(db, opened, i) < pointers_end(opened.from, head_of(opened), opened.cells) {
         return at;
     }
     cell(db, out, at, telling, number, i)
 }
 
 // How many bytes the head has before its pointers.
-fn head(opened: Open) -> usize {
+fn head_of(opened: Open) -> usize {
     let kind = opened.kind;
-    if cell::is_interior(kind) {
-        return 12;
-    }
-    8
+    page::head_size(kind)
 }
 
 // Where the pointers end in the page. They lie in it, and the tests let the sum be seen to fit.
@@ -87,18 +85,10 @@ fn pointers_end(from: usize, head: usize, cells: usize) -> usize {
 }
 
 fn pointer(db: &[u8], opened: Open, i: usize) -> usize {
-    let page = behind(db, opened.at);
-    let pointers = behind(behind(page, opened.from), head(opened));
+    let page = place::bytes_of(db, opened.at, opened.size);
+    let pointers = behind(behind(page, opened.from), head_of(opened));
     let rest = behind(behind(pointers, i), i);
     fields::be_u16(rest) as usize
-}
-
-// The bytes from `at` on, as far as there are any.
-fn behind(s: &[u8], at: usize) -> &[u8] {
-    if s.len() < at {
-        return &s[0..0];
-    }
-    &s[at..]
 }
 
 fn cell(db: &[u8], out: &mut [u8], at: usize, telling: Telling, number: u32, i: usize) -> usize {
@@ -110,10 +100,15 @@ fn cell(db: &[u8], out: &mut [u8], at: usize, telling: Telling, number: u32, i: 
 
 // Row number, column count and values, each by its own call.
 fn row(db: &[u8], out: &mut [u8], at: usize, telling: Telling, number: u32, i: usize) -> usize {
-    let answer = row::row_number(db, page::old(number), i);
+    let answer = row::row_number(db, place::old(number), i);
     match answer {
-        RowAnswer::Refused(refusal) => refused(out, at, telling, answers::numbers_of(refusal)),
-        RowAnswer::Shown(z) => {
+        RowNumberAnswer::Refused(refusal) => refused(
+            out,
+            at,
+            telling,
+            answers::numbers_of(refusal),
+        ),
+        RowNumberAnswer::Shown(z) => {
             let n = field_i64(out, at, z);
             counted(db, out, n, number, i)
         }
@@ -122,7 +117,7 @@ fn row(db: &[u8], out: &mut [u8], at: usize, telling: Telling, number: u32, i: u
 
 // A cell that has a row number is counted: no numbers are told.
 fn counted(db: &[u8], out: &mut [u8], at: usize, number: u32, i: usize) -> usize {
-    let answer = row::count(db, page::old(number), i);
+    let answer = row::count(db, place::old(number), i);
     match answer {
         CountAnswer::Refused(_) => text(out, at, b" refused\n"),
         CountAnswer::Shown(count) => {
@@ -135,7 +130,7 @@ fn counted(db: &[u8], out: &mut [u8], at: usize, number: u32, i: usize) -> usize
 // A value call passes all columns before its own, so those of many go along a cursor.
 fn columns(db: &[u8], out: &mut [u8], at: usize, number: u32, i: usize, count: usize) -> usize {
     if FEW < count {
-        return along::row(db, out, at, page::old(number), i, count);
+        return along::row(db, out, at, place::old(number), i, count);
     }
     let n = values(db, out, at, number, i, count);
     let n = behind_last(db, out, n, number, i, count);

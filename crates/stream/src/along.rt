@@ -2,6 +2,7 @@
 use crate::old;
 use columns::Cursor;
 use columns::Stepped;
+use place::Page;
 use print::out::text;
 use row::CursorAnswer;
 
@@ -12,8 +13,8 @@ pub enum Went {
 }
 
 // As many values as are counted, and the end of the line. A cell that was counted has a cursor: no numbers are told.
-pub fn row(db: &[u8], out: &mut [u8], at: usize, key: usize, i: usize, count: usize) -> usize {
-    let opened = row::cursor(db, key, i);
+pub fn row(db: &[u8], out: &mut [u8], at: usize, asked: Page, i: usize, count: usize) -> usize {
+    let opened = row::cursor(db, asked, i);
     match opened {
         CursorAnswer::Refused(_) => text(out, at, b" refused\n"),
         CursorAnswer::Shown(first) => {
@@ -41,11 +42,11 @@ fn values(db: &[u8], out: &mut [u8], at: usize, first: Cursor, count: usize) -> 
 }
 
 fn last(db: &[u8], out: &mut [u8], at: usize, here: Cursor) -> usize {
-    let reached = columns::step(db, here);
+    let reached = here.step(db);
     match reached {
         Stepped::Done => at,
         Stepped::Column {
-            kind: _,
+            serial: _,
             at: _,
             next: _,
         } => text(out, at, b" more"),

@@ -4,9 +4,10 @@ use crate::pages::pages;
 use crate::telling::Telling;
 use answers::Refusal;
 use cell::Kind;
-use header::ShapeAnswer;
-use page::KindAnswer;
 use page::OpenAnswer;
+use page::Site;
+use page::SiteAnswer;
+use place::ShapeAnswer;
 use print::out::field;
 use print::out::field_u32;
 use print::out::refused;
@@ -14,56 +15,43 @@ use print::out::text;
 use reading::Reading;
 
 pub fn database(db: &[u8], out: &mut [u8], at: usize) -> usize {
-    let answer = header::shape_of(db, Reading::File);
+    let answer = place::shape_of(db, Reading::File);
     match answer {
-        ShapeAnswer::Refused(reason) => {
-            let numbers = answers::numbers_of(Refusal::Plain(reason));
+        ShapeAnswer::Refused(flaw) => {
+            let numbers = answers::numbers_of(Refusal::OfDatabase(flaw));
             let n = text(out, at, b"header");
             refused(out, n, numbers)
         }
         ShapeAnswer::Shown(shape) => {
-            pages(
-                db,
-                out,
-                at,
-                Reading::File,
-                Telling::Numbers,
-                1,
-                last_page(db.len(), shape.page_size),
-            )
+            pages(db, out, at, Reading::File, Telling::Numbers, 1, shape.pages)
         }
     }
 }
 
-// How many whole pages there are.
-fn last_page(bytes: usize, size: u32) -> usize {
-    if size == 0 {
-        return 0;
-    }
-    bytes / (size as usize)
-}
-
 // Other pages than table leaves are passed by.
 pub fn page(db: &[u8], out: &mut [u8], at: usize, number: u32) -> usize {
-    let found = page::kind_in(db, page::file(number));
+    let found = page::site_of(db, place::file(number));
     match found {
-        KindAnswer::Unknown => at,
-        KindAnswer::Known(kind) => match kind {
-            Kind::LeafTable => leaf(db, out, at, number),
-            Kind::LeafIndex => at,
-            Kind::InteriorTable => at,
-            Kind::InteriorIndex => at,
-        },
+        SiteAnswer::Refused(_) => at,
+        SiteAnswer::Shown(site) => {
+            let kind = site.kind;
+            match kind {
+                Kind::LeafTable => leaf(db, out, at, number, site),
+                Kind::LeafIndex => at,
+                Kind::InteriorTable => at,
+                Kind::InteriorIndex => at,
+            }
+        }
     }
 }
 
-fn leaf(db: &[u8], out: &mut [u8], at: usize, number: u32) -> usize {
-    let answer = page::open_page(db, page::file(number));
+fn leaf(db: &[u8], out: &mut [u8], at: usize, number: u32, site: Site) -> usize {
+    let answer = page::open_site(db, site);
     match answer {
-        OpenAnswer::Refused(reason) => {
+        OpenAnswer::Refused(refusal) => {
             let n = text(out, at, b"page");
             let n = field_u32(out, n, number);
-            refused(out, n, answers::numbers_of(Refusal::Plain(reason)))
+            refused(out, n, answers::numbers_of(refusal))
         }
         OpenAnswer::Shown(opened) => cells(db, out, at, number, opened.cells),
     }
@@ -81,5 +69,5 @@ fn cell(db: &[u8], out: &mut [u8], at: usize, number: u32, i: usize) -> usize {
     let n = text(out, at, b"row");
     let n = field_u32(out, n, number);
     let n = field(out, n, i as u64);
-    lines::file::row(db, out, n, row::found(db, page::file(number), i))
+    lines::file::row(db, out, n, row::found(db, place::file(number), i))
 }

@@ -11,9 +11,9 @@ use answers::Refusal;
 use columns::Cursor;
 use header::Header;
 use header::HeaderAnswer;
-use page::Entry;
-use page::Head;
-use page::PageAnswer;
+use page::OpenAnswer;
+use place::Page;
+use place::ShapeAnswer;
 use print::out::field;
 use print::out::field_i64;
 use print::out::field_u8;
@@ -24,6 +24,9 @@ use print::out::real;
 use print::out::text;
 use reading::Reading;
 use row::old::NextAnswer;
+use table::Entry;
+use table::Head;
+use table::PageAnswer;
 use values::narrow::from_i8;
 use values::narrow::from_i16;
 use values::narrow::from_i32;
@@ -36,23 +39,15 @@ const ROOM: usize = 65_536;
 pub fn database(db: &[u8], out: &mut [u8], at: usize, telling: Telling) -> usize {
     let answer = header::header_of(db, Reading::Old);
     match answer {
-        HeaderAnswer::Refused(reason) => {
-            let numbers = answers::numbers_of(Refusal::Plain(reason));
+        HeaderAnswer::Refused(flaw) => {
+            let numbers = answers::numbers_of(Refusal::OfDatabase(flaw));
             header_refused(out, at, telling, numbers.number)
         }
         HeaderAnswer::Shown(header) => {
             let n = versions(out, at, header);
             let n = sizes(out, n, header);
             let n = settings(out, n, header);
-            pages(
-                db,
-                out,
-                n,
-                Reading::Old,
-                telling,
-                0,
-                last_page(db.len(), header.page_size),
-            )
+            pages(db, out, n, Reading::Old, telling, 0, last_page(db))
         }
     }
 }
@@ -89,19 +84,26 @@ fn settings(out: &mut [u8], at: usize, header: Header) -> usize {
     text(out, n, b"\n")
 }
 
-// The page behind the last whole one, which is asked for too. Pages of no bytes have no last one: 0 and 1 stand for all.
-fn last_page(bytes: usize, size: u32) -> usize {
-    if size == 0 {
-        return 1;
+// The page behind the last one, which is asked for too. Pages of no bytes have no last one: 0 and 1 stand for all.
+fn last_page(db: &[u8]) -> usize {
+    let shaped = place::shape_of(db, Reading::Old);
+    match shaped {
+        ShapeAnswer::Refused(_) => 0,
+        ShapeAnswer::Shown(shape) => {
+            if shape.page_size == 0 {
+                return 1;
+            }
+            shape.pages
+        }
     }
-    bytes / (size as usize)
 }
 
 pub fn page(db: &[u8], out: &mut [u8], at: usize, telling: Telling, number: u32) -> usize {
-    let key = page::old(number);
+    let asked = place::old(number);
     let n = text(out, at, b"page");
     let n = field_u32(out, n, number);
-    let answer = page::check_page(db, key, ROOM);
+    let opening = page::open_page(db, asked);
+    let answer = table::check_by(db, opening, ROOM);
     match answer {
         PageAnswer::Refused(refusal) => {
             let n = refused(out, n, telling, answers::numbers_of(refusal));
@@ -109,7 +111,7 @@ pub fn page(db: &[u8], out: &mut [u8], at: usize, telling: Telling, number: u32)
         }
         PageAnswer::Shown(head) => {
             let n = shown(out, n, head);
-            cells(db, out, n, key, head.cells)
+            cells(db, out, n, asked, opening, head.cells)
         }
     }
 }
@@ -124,21 +126,28 @@ fn shown(out: &mut [u8], at: usize, head: Head) -> usize {
     text(out, n, b"\n")
 }
 
-fn cells(db: &[u8], out: &mut [u8], at: usize, key: usize, count: usize) -> usize {
+fn cells(
+    db: &[u8],
+    out: &mut [u8],
+    at: usize,
+    asked: Page,
+    opening: OpenAnswer,
+    count: usize,
+) -> usize {
     let mut n = at;
     for i in 0..count {
-        n = cell(db, out, n, key, i);
+        n = cell(db, out, n, asked, opening, i);
     }
     n
 }
 
-fn cell(db: &[u8], out: &mut [u8], at: usize, key: usize, i: usize) -> usize {
-    let entry = page::entry_at(db, key, i);
+fn cell(db: &[u8], out: &mut [u8], at: usize, asked: Page, opening: OpenAnswer, i: usize) -> usize {
+    let entry = table::entry_by(db, opening, i);
     let n = text(out, at, b"cell");
     let n = field(out, n, i as u64);
     let n = place(out, n, entry);
     let n = record(out, n, entry);
-    row(db, out, n, key, i, entry.columns)
+    row(db, out, n, asked, i, entry.columns)
 }
 
 fn place(out: &mut [u8], at: usize, entry: Entry) -> usize {

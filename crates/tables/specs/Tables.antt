@@ -1,4 +1,4 @@
--- The constant tables of the file format, as the definitions read them.
+-- The constant tables of the file format, as the definitions read them. The code's are the same lists.
 use Prim.Native.Nat.{ℕ}
 use mathlib.Core.List.{List, [], _∷_}
 
@@ -6,17 +6,11 @@ use mathlib.Core.List.{List, [], _∷_}
 abbrev pub widths : List ℕ
 widths = 0 ∷ 1 ∷ 2 ∷ 3 ∷ 4 ∷ 6 ∷ 8 ∷ 8 ∷ 0 ∷ 0 ∷ []
 
--- where a field of the header stands, and how many bytes it has
-pub record Field : Type 0 where
-  pub at : ℕ
-  pub width : ℕ
+-- 1.3 "The Database Header": where each field stands, in the order of the file ..
+abbrev pub fieldAt : List ℕ
+fieldAt =
+    16 ∷ 18 ∷ 19 ∷ 20 ∷ 21 ∷ 22 ∷ 23 ∷ 24 ∷ 28 ∷ 32 ∷ 36 ∷ 40 ∷ 44 ∷ 48 ∷ 52 ∷ 56 ∷ 60 ∷ 64 ∷ 68 ∷ 92 ∷ 96 ∷ []
 
-abbrev field : ℕ → ℕ → Field
-field at width = record { at = at; width = width }
-
--- 1.3 "The Database Header": where each field stands and how many bytes it has, in the order of the file
-abbrev pub fields : List Field
-fields =
-    field 16 2 ∷ field 18 1 ∷ field 19 1 ∷ field 20 1 ∷ field 21 1 ∷ field 22 1 ∷ field 23 1
-    ∷ field 24 4 ∷ field 28 4 ∷ field 32 4 ∷ field 36 4 ∷ field 40 4 ∷ field 44 4 ∷ field 48 4
-    ∷ field 52 4 ∷ field 56 4 ∷ field 60 4 ∷ field 64 4 ∷ field 68 4 ∷ field 92 4 ∷ field 96 4 ∷ []
+-- .. and how many bytes it has
+abbrev pub fieldWidth : List ℕ
+fieldWidth = 2 ∷ 1 ∷ 1 ∷ 1 ∷ 1 ∷ 1 ∷ 1 ∷ 4 ∷ 4 ∷ 4 ∷ 4 ∷ 4 ∷ 4 ∷ 4 ∷ 4 ∷ 4 ∷ 4 ∷ 4 ∷ 4 ∷ 4 ∷ 4 ∷ []

@@ -5,9 +5,9 @@ use mathlib.Core.List.{List}
 use mathlib.Core.Bool.{Bool}
 use native.Mathlib.Omega.{arith}
 use lib.ListN.{length, take, drop, getD, length-drop}
-use lib.Seq.{drop-drop, length-take-le}
+use Rattle.varint.specs.declared.Number.{Number}
 use Rattle.varint.specs.declared.Varint.the-variants as vi
-use Rattle.varint.specs.Varint.{varintOf}
+use Rattle.varint.specs.Varint.{number, varintOf}
 use Rattle.varint.proofs.Laws.{one-byte, length-bounds, longer-limit}
 use Rattle.reading.specs.declared.Reading.{Reading}
 use Rattle.reading.specs.declared.Reading.the-variants.{Old as old, File as file}
@@ -18,21 +18,27 @@ use Rattle.record.specs.declared.Fit.the-variants.{Fits}
 use Rattle.record.specs.Types.{Types, typesOf, count}
 use Rattle.record.specs.Record.{counted, judged, fitted}
 use Rattle.record.proofs.Count.{fits-count}
-use Rattle.record.proofs.Stages.{fit-laid}
-use Rattle.record.proofs.Accepted.{record-again}
+use Rattle.record.proofs.Stages.{fit-laid, judged-file}
+use Rattle.record.proofs.Accepted.{accepted, record-again}
 use Rattle.cell.specs.declared.Kind.the-variants.{LeafTable}
 use Rattle.cell.specs.declared.Payload.the-variants as pa
 use Rattle.cell.specs.Kind.{mostWhole}
 use Rattle.cell.specs.Cell.{payloadIn}
-use Rattle.cell.proofs.Laws.{payload-within}
-use Rattle.cell.proofs.Inside.{payload-ends}
+use Rattle.cell.proofs.Inside.{inside}
+use Rattle.cell.proofs.Leaf.{leafNumbers, leaf-again}
 use Rattle.usual.specs.declared.Layout.the-variants as ly
+use Rattle.usual.specs.declared.Span.{Span}
 use Rattle.usual.specs.Short.{Lying, Head, Start}
+use Rattle.usual.proofs.Types.{clear-clean}
 
 -- a header size counts its one byte, in either reading
-pub counted-one : (r : Reading) → counted r 1 ≡ 1
+counted-one : (r : Reading) → counted r 1 ≡ 1
 counted-one old = refl
 counted-one file = refl
+
+-- values that fill the payload fit in the file reading, too
+pub filled : {r : Reading} → r ≡ file → (ts : Types) (n : ℕ) {left : ℕ} → left ≡ 0 → judged r ts (Ends n left) ≡ Fits n left
+filled f ts n e = judged-file f ts _ ∙ rw e
 
 module _ (g : Bool) (r : Reading) (q : List ℕ) (n left : ℕ) where
   abbrev size : ℕ
@@ -51,57 +57,56 @@ module _ (g : Bool) (r : Reading) (q : List ℕ) (n left : ℕ) where
         fit-laid r (counted r 1) size (drop 1 q) (rw c low) (rw c here) ∙ rw (c, length-drop, room, l .0) j in
         let m : n ≡ count ts = rw c at (fits-count r (counted r 1) size (drop 1 q) whole) in
         record {
-          ts = ts;
+          types = ts;
           left = left;
-          accepted = record {
-            header = one-byte q (limit r) (omega (arith, takes-five r)) some byte;
-            low = rw c low;
-            room = rw c here;
-            types = rw c;
-            fits = rw (c, length-drop, room, l .0, ← m) j;
-          };
+          is = record-again r q
+              (record {
+                header = one-byte q (limit r) (omega (arith, takes-five r)) some byte;
+                low = rw c low;
+                room = rw c here;
+                types = rw c;
+                fits = rw (c, length-drop, room, l .0, ← m) j;
+              });
           columns = sym m;
           clean = l .1;
         }
 
 -- THE ROW, its numbers before the record
 
-pub start : (g : Bool) (r : Reading) (u : ℕ) (s : List ℕ) {p np v nv n h columns : ℕ} → varintOf 5 s ≡ vi.Value p np
-    → varintOf 5 (drop np s) ≡ vi.Value v nv → payloadIn r (mostWhole LeafTable u) p (drop (np + nv) s) ≡ pa.Whole n
-    → Head g r (take n (drop (np + nv) s)) h columns
-    → Start g r u s (record { number = v; columns = columns; from = np + nv; payload = n; header = h })
-start g r u s {p} {np} {v} {nv} {n} e f pay hd =
-    let from = np + nv in
-    let rest = drop from s in
-    let a = length-bounds s 5 e in
-    let b = rw length-drop at (length-bounds (drop np s) 5 f) in
-    let there : from ≤ length s = omega arith in
-    let fits = payload-within r (mostWhole LeafTable u) p rest pay in
-    let within : from + n ≤ length s = let w = rw length-drop at fits in omega arith in
-    let long = length-take-le n rest fits in
-    let one = rw long at (length-bounds (take n rest) (limit r) (hd .accepted .header)) in
-    let low = rw (counted-one r) at (hd .accepted .low) in
-    let room = rw (counted-one r, length-drop, long) at (hd .accepted .room) in
-    let behind = drop-drop nv np s in
-    record {
-      p = p;
-      np = np;
-      nv = nv;
-      ts = hd .ts;
-      leaf = record {
-        size = longer-limit s 5 (limit r) (takes-five r) e;
-        row = longer-limit (drop np s) 5 (limit r) (takes-five r) f;
-        n = n;
-        payload = rw behind pay;
-        left = hd .left;
-        recorded = rw behind (record-again r (take n rest) (hd .accepted));
-      };
-      size-short = a .1;
-      row-short = b .1;
-      from = refl;
-      ends = payload-ends r (mostWhole LeafTable u) p from s there pay;
-      header = (low, omega arith);
-      within = within;
-      columns = hd .columns;
-      clean = hd .clean;
-    }
+module _ (g : Bool) (r : Reading) (u : ℕ) (s : List ℕ) where
+  pub start : {size key : Number} {n h columns : ℕ} → varintOf 5 s ≡ vi.Value size → varintOf 5 (drop (size .length) s) ≡ vi.Value key
+      → payloadIn r (mostWhole LeafTable u) (size .value) (drop (size .length + key .length) s) ≡ pa.Whole n
+      → Head g r (take n (drop (size .length + key .length) s)) h columns
+      → Start g r u s (record { number = key .value; columns = columns; from = size .length + key .length; payload = n; header = h })
+  start {size} {key} {n} {h} e f pay hd =
+      let low = rw (counted-one r) at (accepted r (take n (drop (size .length + key .length) s)) (hd .is) .low) in
+      record {
+        cell = record { numbers = leafNumbers size key; payload = n; header = number h 1; types = hd .types; row = key };
+        is = leaf-again r u s
+            (record {
+              size = longer-limit s 5 (limit r) (takes-five r) e;
+              key = longer-limit (drop (size .length) s) 5 (limit r) (takes-five r) f;
+              numbers = refl;
+              payload = pay;
+              left = hd .left;
+              recorded = hd .is;
+              row = refl;
+            });
+        number = refl;
+        columns = hd .columns;
+        from = refl;
+        payload = refl;
+        own = refl;
+        values = rw (counted-one r) (omega arith);
+        clean = λ i. clear-clean (size .length) (key .length) (hd .types) (length-bounds s 5 e .1) (length-bounds (drop (size .length) s) 5 f .1) (hd .clean i);
+      }
+
+  -- its payload lies in the part, and in that its header
+  pub start-lies : {x : Span} → Start g r u s x → (1 ≤ x .header) × (x .header ≤ x .payload) × (x .from + x .payload ≤ length s)
+  start-lies {x} b =
+      let o = inside r LeafTable u s (b .is) in
+      let own = b .own in
+      let values = b .values in
+      let payload = b .payload in
+      let from = b .from in
+      (omega arith, omega (arith, o .held .values), omega (arith, o .within))

@@ -10,9 +10,10 @@ use lib.ListN.{length, drop, getD, length-drop}
 use lib.Seq.{getD-drop}
 use borrow.Author.Tests.{ne-eqb, le-ltb}
 use Rattle.laws.specs.Pick.{pick}
+use Rattle.varint.specs.Varint.{number}
 use Rattle.varint.proofs.Laws.{one-byte}
 use Rattle.record.specs.declared.Laid.the-variants.{Ends}
-use Rattle.record.specs.Types.{num, Types, done, column, typesOf, walk}
+use Rattle.record.specs.Types.{Types, done, column, typesOf, walk}
 use Rattle.record.proofs.Laws.{types-at, types-end, walk-on}
 use Rattle.marks.specs.declared.Marking.the-variants.{Clear}
 use Rattle.marks.specs.Marks.{some, emptyValue, lowest}
@@ -25,12 +26,12 @@ use Rattle.usual.specs.Short.{Usual, Clean, LyingAs}
 pub clean-done : Clean done
 clean-done = record { long = refl; one = refl; empty = refl }
 
-pub clean-on : (kind w : ℕ) (rest : Types) → Usual kind 9 14 w → Clean rest → Clean (column (num kind 1) rest)
-clean-on kind w rest u c = record { long = c .long; one = rw (ne-eqb kind 9 (u .other)) (c .one); empty = empties (u .sort) }
+pub clean-on : (serial w : ℕ) (rest : Types) → Usual serial 9 14 w → Clean rest → Clean (column (number serial 1) rest)
+clean-on serial w rest u c = record { long = c .long; one = rw (ne-eqb serial 9 (u .other)) (c .one); empty = empties (u .sort) }
   where
-    empties : (kind < 10) ⊎ (14 ≤ kind) → some emptyValue (column (num kind 1) rest) ≡ false
-    empties (inl h) = rw (ne-eqb kind 12 (λ z. omega arith), ne-eqb kind 13 (λ z. omega arith)) (c .empty)
-    empties (inr h) = rw (ne-eqb kind 12 (λ z. omega arith), ne-eqb kind 13 (λ z. omega arith)) (c .empty)
+    empties : (serial < 10) ⊎ (14 ≤ serial) → some emptyValue (column (number serial 1) rest) ≡ false
+    empties (inl h) = rw (ne-eqb serial 12 (λ z. omega arith), ne-eqb serial 13 (λ z. omega arith)) (c .empty)
+    empties (inr h) = rw (ne-eqb serial 12 (λ z. omega arith), ne-eqb serial 13 (λ z. omega arith)) (c .empty)
 
 -- where none is found
 pub clean-clear : (ts : Types) → lowest 1 1 1 ts ≡ Clear → Clean ts
@@ -44,7 +45,7 @@ clear-clean np nv ts h l c = rw (le-ltb 5 np h, le-ltb 5 nv l, c .long, c .one, 
 -- ONE TYPE MORE, at a place of the bytes
 
 module _ (k : ℕ) (t : List ℕ) (at : ℕ) (h : 1 ≤ k) (l : at < length t) where
-  pub type-at : getD t at 0 < 128 → typesOf k (drop at t) ≡ column (num (getD t at 0) 1) (typesOf k (drop (at + 1) t))
+  pub type-at : getD t at 0 < 128 → typesOf k (drop at t) ≡ column (number (getD t at 0) 1) (typesOf k (drop (at + 1) t))
   type-at b =
       let e = one-byte (drop at t) k h (rw length-drop (omega arith)) (rw (getD-drop at t 0 0, add-zero) b) in
       types-at k t at (rw (getD-drop at t 0 0, add-zero) at e)
@@ -78,7 +79,7 @@ module _ (g : Bool) (room : ℕ) (t : List ℕ) where
     gone-on w l u m gone k h =
         let e = type-at k t at h l (u .byte) in
         let now = gone k h in (
-          sym (ap (walk at left) e ∙ walk-on at left (getD t at 0) 1 _ w (u .has) m) ∙ now .0,
+          sym (ap (walk at left) e ∙ walk-on at left (number (getD t at 0) 1) _ w (u .has) m) ∙ now .0,
           λ i c. now .1 i (rw e (clean-on (getD t at 0) w _ (rw i at u) c)),
         )
 

@@ -1,20 +1,22 @@
 -- What the short way says, stage by stage: what the plain form makes of the same bytes, or nothing. None of it is to be
 -- believed: it is what the functions on the way promise each other, and `row_in` promises the plain form's answer.
-use Prim.Native.Nat.{ℕ, _+_, _≤_, _<_}
+use Prim.Native.Nat.{ℕ, _≤_, _<_}
 use mathlib.Core.Path.{_≡_}
 use mathlib.Core.Logic.{_⊎_}
 use mathlib.Core.List.{List}
 use mathlib.Core.Bool.{Bool, true, false}
-use lib.ListN.{length}
+use Rattle.varint.specs.Varint.{number}
 use Rattle.reading.specs.declared.Reading.{Reading}
+use Rattle.answers.specs.Answer.{shown}
 use Rattle.serial.specs.declared.Width.the-variants as wi
 use Rattle.serial.specs.Serial.{widthOf}
 use Rattle.record.specs.declared.Laid.the-variants.{Ends}
 use Rattle.record.specs.Types.{Types, typesOf, count, walk}
-use Rattle.record.proofs.Accepted.{Accepted}
-use Rattle.cell.specs.Layout.{valuesEnd}
-use Rattle.cell.proofs.Leaf.{Leaf}
-use Rattle.marks.specs.Marks.{some, longType, storedOne, emptyValue}
+use Rattle.record.specs.Record.{valuesAt, recordOf}
+use Rattle.cell.specs.declared.Kind.the-variants.{LeafTable}
+use Rattle.cell.specs.Cell.{Cell, cellOf}
+use Rattle.marks.specs.declared.Marking.the-variants.{Clear}
+use Rattle.marks.specs.Marks.{some, longType, storedOne, emptyValue, markOf}
 use Rattle.usual.specs.declared.RowAnswer.{RowAnswer}
 use Rattle.usual.specs.declared.RowAnswer.the-variants.{Shown}
 use Rattle.usual.specs.declared.Width.{Width}
@@ -23,7 +25,7 @@ use Rattle.usual.specs.declared.Layout.{Layout}
 use Rattle.usual.specs.declared.Layout.the-variants as ly
 use Rattle.usual.specs.declared.Header.{Header}
 use Rattle.usual.specs.declared.Header.the-variants as hd
-use Rattle.usual.specs.declared.Place.{Place}
+use Rattle.usual.specs.declared.Span.{Span}
 use Rattle.usual.specs.declared.Row.{Row}
 use Rattle.usual.specs.declared.Row.the-variants as rw
 use Rattle.usual.specs.declared.Found.{Found}
@@ -32,15 +34,15 @@ use Rattle.usual.specs.declared.Found.the-variants as fd
 -- TYPES
 
 -- a type of one byte with its width: neither the barred one, nor a text or a blob below the least
-pub record Usual (kind barred least w : ℕ) : Type 0 where
-  pub byte : kind < 128
-  pub has : widthOf kind ≡ wi.Bytes w
-  pub other : kind ≡ barred → ⊥
-  pub sort : (kind < 10) ⊎ (least ≤ kind)
+pub record Usual (serial barred least w : ℕ) : Type 0 where
+  pub byte : serial < 128
+  pub has : widthOf serial ≡ wi.Bytes w
+  pub other : serial ≡ barred → ⊥
+  pub sort : (serial < 10) ⊎ (least ≤ serial)
 
 abbrev pub Wide : ℕ → ℕ → ℕ → Width → Type 0
-Wide kind barred least wd.Other = Unit {0}
-Wide kind barred least (wd.Bytes w) = Usual kind barred least w
+Wide serial barred least wd.Other = Unit {0}
+Wide serial barred least (wd.Bytes w) = Usual serial barred least w
 
 -- types with no mark
 pub record Clean (ts : Types) : Type 0 where
@@ -56,35 +58,31 @@ Lying g room ts (ly.Fits n left) = (walk 0 room ts ≡ Ends n left) × (g ≡ tr
 abbrev pub LyingAs : Bool → ℕ → List ℕ → Layout → Type 0
 LyingAs g room t x = (k : ℕ) → 1 ≤ k → Lying g room (typesOf k t) x
 
--- THE RECORD in q
+-- THE RECORD in q: one with a header size of one byte, and so many columns
 
 pub record Head (g : Bool) (r : Reading) (q : List ℕ) (size n : ℕ) : Type 0 where
-  pub ts : Types
+  pub types : Types
   pub left : ℕ
-  pub accepted : Accepted r q size 1 ts left
-  pub columns : count ts ≡ n
-  pub clean : g ≡ true → Clean ts
+  pub is : recordOf r q ≡ shown (record { header = number size 1; types = types; left = left })
+  pub columns : count types ≡ n
+  pub clean : g ≡ true → Clean types
 
 abbrev pub Headed : Bool → Reading → List ℕ → Header → Type 0
 Headed g r q hd.Other = Unit {0}
 Headed g r q (hd.Size size n) = Head g r q size n
 
--- THE ROW that begins s, on a page of u usable bytes
+-- THE ROW that begins s, on a page of u usable bytes: a cell, and where its parts stand in s
 
-pub record Start (g : Bool) (r : Reading) (u : ℕ) (s : List ℕ) (x : Place) : Type 0 where
-  pub p : ℕ
-  pub np : ℕ
-  pub nv : ℕ
-  pub ts : Types
-  pub leaf : Leaf r u s p np (x .number) nv (x .header) 1 ts
-  pub size-short : np ≤ 5
-  pub row-short : nv ≤ 5
-  pub from : np + nv ≡ x .from
-  pub ends : valuesEnd r (x .from) p (length s) ≡ x .from + x .payload
-  pub header : (1 ≤ x .header) × (x .header ≤ x .payload)
-  pub within : x .from + x .payload ≤ length s
-  pub columns : count ts ≡ x .columns
-  pub clean : g ≡ true → Clean ts
+pub record Start (g : Bool) (r : Reading) (u : ℕ) (s : List ℕ) (x : Span) : Type 0 where
+  pub cell : Cell
+  pub is : cellOf r LeafTable u s ≡ shown cell
+  pub number : cell .row .value ≡ x .number
+  pub columns : count (cell .types) ≡ x .columns
+  pub from : cell .numbers .length ≡ x .from
+  pub payload : cell .payload ≡ x .payload
+  pub own : cell .header .length ≡ 1
+  pub values : valuesAt r (cell .header) ≡ x .header
+  pub clean : g ≡ true → markOf cell ≡ Clear
 
 abbrev pub Begun : Bool → Reading → ℕ → List ℕ → Row → Type 0
 Begun g r u s rw.Other = Unit {0}

@@ -3,16 +3,17 @@
 // A row is usual if it is a cell of a table leaf whose numbers take at most five bytes each and whose header size takes one,
 // as those of a gauge do. One pass looks at each of its types once, and only for whether all is well. Where it is not, or
 // the row is not usual, the plain form answers: every answer and every refusal is the plain form's, which is the definition
-// here. From the file format, 1.6 "B-tree Pages" and 2.1 "Record Format", as `page`, `cell` and `record` have them.
+// here. From the file format, 1.6 "B-tree Pages" and 2.1 "Record Format", as `cells`, `cell` and `record` have them.
 ghost use mathlib.Core.Path.{_≡_};
 ghost use mathlib.Core.Bool.{true};
 ghost use Prim.Native.Nat.{_≤_, _<_};
-ghost use lib.ListN.{length};
+ghost use lib.ListN.{length, getD};
 ghost use Rattle.laws.specs.Pick.{pick};
+ghost use Rattle.tables.specs.Tables.{widths};
 ghost use Rattle.reading.specs.Reading.{limit};
 ghost use Rattle.record.specs.Types.{typesOf};
 ghost use Rattle.cell.specs.declared.Kind.the-variants.{LeafTable};
-ghost use Rattle.page.specs.Located.{liesIn};
+ghost use Rattle.page.specs.Open.{liesIn};
 ghost use Rattle.usual.specs.Usual.{rowBy, rowIn};
 ghost use Rattle.usual.specs.Short.{Wide, Lying, LyingAs, Headed, Begun, Says};
 use answers::Refusal;
@@ -56,7 +57,7 @@ enum Header {
 }
 
 // A row in its part of the page: where its payload begins, and how many bytes it takes.
-struct Place {
+struct Span {
     number: u64,
     columns: usize,
     from: usize,
@@ -65,7 +66,7 @@ struct Place {
 }
 
 enum Row {
-    At(Place),
+    At(Span),
     Other,
 }
 
@@ -94,24 +95,43 @@ fn least_of(guarded: bool) -> u64
     if guarded { 14 } else { 12 }
 }
 
-// How many bytes the value of a type of one byte takes.
-fn width_of(kind: u64, barred: u64, least: u64) -> Width
-    requires { ⌜ (barred ≤ 10) × (12 ≤ least) ⌝ }
-    ensures { λ r. ⌜ Wide kind barred least r ⌝ }
+// The table of widths as a `match`, which is read from memory: a constant array would be laid on the stack at each type.
+fn short_width(serial: u64) -> u64
+    ensures { λ r. ⌜ r ≡ getD widths serial 0 ⌝ }
 {
-    if kind < 10 {
-        if kind == barred {
+    match serial {
+        0 => 0,
+        1 => 1,
+        2 => 2,
+        3 => 3,
+        4 => 4,
+        5 => 6,
+        6 => 8,
+        7 => 8,
+        8 => 0,
+        9 => 0,
+        _ => 0,
+    }
+}
+
+// How many bytes the value of a type of one byte takes.
+fn width_of(serial: u64, barred: u64, least: u64) -> Width
+    requires { ⌜ (barred ≤ 10) × (12 ≤ least) ⌝ }
+    ensures { λ r. ⌜ Wide serial barred least r ⌝ }
+{
+    if serial < 10 {
+        if serial == barred {
             return Width::Other;
         }
-        return Width::Bytes(serial::short_width(kind));
+        return Width::Bytes(short_width(serial));
     }
-    if kind < least {
+    if serial < least {
         return Width::Other;
     }
-    if 128 <= kind {
+    if 128 <= serial {
         return Width::Other;
     }
-    Width::Bytes((kind - 12) / 2)
+    Width::Bytes((serial - 12) / 2)
 }
 
 // How the values of the types `t` lie in `room` bytes, where each type is one byte.
@@ -206,26 +226,20 @@ fn header_of(q: &[u8], reading: Reading, guarded: bool) -> Header
 fn row_of(s: &[u8], reading: Reading, guarded: bool, usable: u32) -> Row
     ensures { λ r. ⌜ Begun guarded reading usable (now (s .entry)) r ⌝ }
 {
-    let size = varint::read(s, varint::OLD_LIMIT);
-    let Varint::Value {
-        value: p,
-        length: a,
-    } = size
-    else {
+    let first = varint::read(s, varint::OLD_LIMIT);
+    let Varint::Value(size) = first else {
         return Row::Other;
     };
-    let row = varint::read(&s[a..], varint::OLD_LIMIT);
-    let Varint::Value {
-        value: number,
-        length: b,
-    } = row
-    else {
+    let at = size.length;
+    let second = varint::read(&s[at..], varint::OLD_LIMIT);
+    let Varint::Value(key) = second else {
         return Row::Other;
     };
-    let from = a + b;
+    let from = at + key.length;
     let rest = &s[from..];
-    let most = cell::most_whole(Kind::LeafTable, usable);
-    let payload = cell::payload_of(rest, reading, most, p);
+    let leaf = Kind::LeafTable;
+    let most = leaf.most_whole(usable);
+    let payload = cell::payload_of(rest, reading, most, size.value);
     let Payload::Whole(n) = payload else {
         return Row::Other;
     };
@@ -233,8 +247,8 @@ fn row_of(s: &[u8], reading: Reading, guarded: bool, usable: u32) -> Row
     let Header::Size { size: h, columns } = header else {
         return Row::Other;
     };
-    Row::At(Place {
-        number,
+    Row::At(Span {
+        number: key.value,
         columns,
         from,
         payload: n,
@@ -247,7 +261,8 @@ fn found_on(db: &[u8], opened: Open, guarded: bool, i: usize) -> Found
     requires { ⌜ (opened .kind ≡ LeafTable) × (liesIn (length (now db)) opened ≡ true) × (i < opened .cells) ⌝ }
     ensures { λ r. ⌜ Says (rowIn guarded opened i (now (db .entry))) r ⌝ }
 {
-    let reading = opened.reading;
+    let its = opened.page;
+    let reading = its.reading;
     let start = opened.at;
     let behind = start + opened.size;
     let page = &db[start..behind];
@@ -262,19 +277,19 @@ fn found_on(db: &[u8], opened: Open, guarded: bool, i: usize) -> Found
         return Found::Other;
     }
     let row = row_of(&page[pointer..end], reading, guarded, opened.end);
-    let Row::At(place) = row else {
+    let Row::At(span) = row else {
         return Found::Other;
     };
-    let base = start + pointer + place.from;
+    let base = start + pointer + span.from;
     Found::Row {
-        number: place.number,
-        columns: place.columns,
+        number: span.number,
+        columns: span.columns,
         cursor: Cursor {
             reading,
             at: base + 1,
-            stop: base + place.header,
-            value: base + place.header,
-            end: base + place.payload,
+            stop: base + span.header,
+            value: base + span.header,
+            end: base + span.payload,
         },
     }
 }
@@ -313,12 +328,10 @@ fn plain_of(answer: FoundAnswer) -> RowAnswer
 {
     match answer {
         FoundAnswer::Refused(refusal) => RowAnswer::Refused(refusal),
-        FoundAnswer::Shown {
-            kind: _,
-            cell,
-            cursor,
-        } => {
+        FoundAnswer::Shown(found) => {
+            let cell = found.cell;
             let row = cell.row;
+            let cursor = found.cursor;
             RowAnswer::Shown {
                 number: row.value,
                 columns: cell.columns,

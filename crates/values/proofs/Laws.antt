@@ -38,51 +38,51 @@ the-nan bits h =
     sym (is-nan (ofBits binary64 bits) (sym (nanBits-is binary64 bits) ∙ nanBits-above binary64 bits ∙ lt-ltb infinity (unsigned-bits bits) h))
 
 -- below 14 a text or a blob would have no bytes
-pub no-bytes : (kind : ℕ) → eqb (lengthOf kind) 0 ≡ ltb kind 14
-no-bytes kind = go (ltb kind 14) refl
+pub no-bytes : (serial : ℕ) → eqb (lengthOf serial) 0 ≡ ltb serial 14
+no-bytes serial = go (ltb serial 14) refl
   where
-    short : kind < 14 → (b : Bool) → isBlob kind ≡ b → pick b ((kind - 12) / 2) ((kind - 13) / 2) ≡ 0
-    short h true e = let even = eqb-true (kind % 2) 0 e in omega arith
+    short : serial < 14 → (b : Bool) → isBlob serial ≡ b → pick b ((serial - 12) / 2) ((serial - 13) / 2) ≡ 0
+    short h true e = let even = eqb-true (serial % 2) 0 e in omega arith
     short h false e = omega arith
 
-    go : (b : Bool) → ltb kind 14 ≡ b → eqb (lengthOf kind) 0 ≡ b
-    go true e = eq-eqb (lengthOf kind) 0 (short (ltb-true kind 14 e) (isBlob kind) refl)
+    go : (b : Bool) → ltb serial 14 ≡ b → eqb (lengthOf serial) 0 ≡ b
+    go true e = eq-eqb (lengthOf serial) 0 (short (ltb-true serial 14 e) (isBlob serial) refl)
     go false e =
-        let h = ltb-false kind 14 e in
-        let l = length-either kind (omega arith) in
-        let n : lengthOf kind ≡ 0 → ⊥ = λ z. omega (arith, l ∙ z) in
-        ne-eqb (lengthOf kind) 0 n
+        let h = ltb-false serial 14 e in
+        let l = length-either serial (omega arith) in
+        let n : lengthOf serial ≡ 0 → ⊥ = λ z. omega (arith, l ∙ z) in
+        ne-eqb (lengthOf serial) 0 n
 
 -- past the types of fixed width
-module _ (kind at : ℕ) (s : List ℕ) (h : 10 ≤ kind) where
-  pub file-long : file.valueOf kind at s ≡ file.longOf kind at
+module _ (serial at : ℕ) (s : List ℕ) (h : 10 ≤ serial) where
+  pub file-long : file.valueOf serial at s ≡ file.longOf serial at
   unfolding file.valueOf
   file-long =
-      rw (ne-eqb kind 0 (omega arith), le-ltb kind 7 (omega arith), ne-eqb kind 7 (omega arith), ne-eqb kind 8 (omega arith), ne-eqb kind 9 (omega arith))
+      rw (ne-eqb serial 0 (omega arith), le-ltb serial 7 (omega arith), ne-eqb serial 7 (omega arith), ne-eqb serial 8 (omega arith), ne-eqb serial 9 (omega arith))
 
-  pub old-long : old.valueOf kind at s ≡ old.longOf kind at
+  pub old-long : old.valueOf serial at s ≡ old.longOf serial at
   unfolding old.valueOf
   old-long =
       rw (
-        ne-eqb kind 0 (omega arith),
-        ne-eqb kind 1 (omega arith),
-        ne-eqb kind 2 (omega arith),
-        le-ltb kind 5 (omega arith),
-        le-ltb kind 7 (omega arith),
-        ne-eqb kind 7 (omega arith),
-        le-ltb kind 10 (omega arith),
+        ne-eqb serial 0 (omega arith),
+        ne-eqb serial 1 (omega arith),
+        ne-eqb serial 2 (omega arith),
+        le-ltb serial 5 (omega arith),
+        le-ltb serial 7 (omega arith),
+        ne-eqb serial 7 (omega arith),
+        le-ltb serial 10 (omega arith),
       )
 
 -- the types that hold no bytes and are integers
-pub old-constant : (kind at : ℕ) (s : List ℕ) → 8 ≤ kind → kind < 10 → old.valueOf kind at s ≡ I8 (pos 0)
+pub old-constant : (serial at : ℕ) (s : List ℕ) → 8 ≤ serial → serial < 10 → old.valueOf serial at s ≡ I8 (pos 0)
 unfolding old.valueOf
-old-constant kind at s h l =
+old-constant serial at s h l =
     rw (
-      ne-eqb kind 0 (omega arith),
-      ne-eqb kind 1 (omega arith),
-      ne-eqb kind 2 (omega arith),
-      le-ltb kind 5 (omega arith),
-      le-ltb kind 7 (omega arith),
-      ne-eqb kind 7 (omega arith),
-      lt-ltb kind 10 l,
+      ne-eqb serial 0 (omega arith),
+      ne-eqb serial 1 (omega arith),
+      ne-eqb serial 2 (omega arith),
+      le-ltb serial 5 (omega arith),
+      le-ltb serial 7 (omega arith),
+      ne-eqb serial 7 (omega arith),
+      lt-ltb serial 10 l,
     )

@@ -14,14 +14,14 @@ use Rattle.values.specs.declared.file.Value.the-variants.{Null, Integer,
 
 -- a text or a blob at `at`; types 10 and 11 have no value, and no record with one is shown
 abbrev pub longOf : ℕ → ℕ → Value
-longOf kind at = pick (ltb kind 12) Null (pick (isBlob kind) (Blob at (lengthOf kind)) (Text at (lengthOf kind)))
+longOf serial at = pick (ltb serial 12) Null (pick (isBlob serial) (Blob at (lengthOf serial)) (Text at (lengthOf serial)))
 
 -- s begins with the value's bytes and stands at `at`
 unfoldable pub valueOf : ℕ → ℕ → List ℕ → Value
-valueOf kind at s =
-    pick (eqb kind 0) Null
-    (pick (ltb kind 7) (Integer (signed (getD widths kind 0) s))
-    (pick (eqb kind 7) (Real (ofBits binary64 (unsigned 8 s)) (unsigned 8 s))
-    (pick (eqb kind 8) (Integer (pos 0))
-    (pick (eqb kind 9) (Integer (pos 1))
-    (longOf kind at)))))
+valueOf serial at s =
+    pick (eqb serial 0) Null
+    (pick (ltb serial 7) (Integer (signed (getD widths serial 0) s))
+    (pick (eqb serial 7) (Real (ofBits binary64 (unsigned 8 s)) (unsigned 8 s))
+    (pick (eqb serial 8) (Integer (pos 0))
+    (pick (eqb serial 9) (Integer (pos 1))
+    (longOf serial at)))))

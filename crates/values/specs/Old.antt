@@ -16,16 +16,16 @@ use Rattle.values.specs.declared.old.Value.the-variants.{Null, I8, I16, 
 
 -- a text or a blob at `at`; the Rust panics at types 10 and 11, and no record with one is shown
 abbrev pub longOf : ℕ → ℕ → Value
-longOf kind at = pick (eqb (lengthOf kind) 0) Null (pick (isBlob kind) (Blob at (lengthOf kind)) (Text at (lengthOf kind)))
+longOf serial at = pick (eqb (lengthOf serial) 0) Null (pick (isBlob serial) (Blob at (lengthOf serial)) (Text at (lengthOf serial)))
 
 -- s begins with the value's bytes and stands at `at`
 unfoldable pub valueOf : ℕ → ℕ → List ℕ → Value
-valueOf kind at s =
-    pick (eqb kind 0) Null
-    (pick (eqb kind 1) (I8 (signed 1 s))
-    (pick (eqb kind 2) (I16 (signed 2 s))
-    (pick (ltb kind 5) (I32 (signed (getD widths kind 0) s))
-    (pick (ltb kind 7) (I64 (signed (getD widths kind 0) s))
-    (pick (eqb kind 7) (F64 (ofBits binary64 (unsigned 8 s)) (unsigned 8 s))
-    (pick (ltb kind 10) (I8 (pos 0))
-    (longOf kind at)))))))
+valueOf serial at s =
+    pick (eqb serial 0) Null
+    (pick (eqb serial 1) (I8 (signed 1 s))
+    (pick (eqb serial 2) (I16 (signed 2 s))
+    (pick (ltb serial 5) (I32 (signed (getD widths serial 0) s))
+    (pick (ltb serial 7) (I64 (signed (getD widths serial 0) s))
+    (pick (eqb serial 7) (F64 (ofBits binary64 (unsigned 8 s)) (unsigned 8 s))
+    (pick (ltb serial 10) (I8 (pos 0))
+    (longOf serial at)))))))

@@ -20,10 +20,10 @@ pub enum Value {
 }
 
 // The value of a serial type whose bytes begin the part, which stands at `at` of the caller's bytes.
-pub fn value_of(kind: u64, part: &[u8], at: usize) -> Value
-    ensures { λ r. ⌜ r ≡ valueOf kind at (now (part .entry)) ⌝ }
+pub fn value_of(serial: u64, part: &[u8], at: usize) -> Value
+    ensures { λ r. ⌜ r ≡ valueOf serial at (now (part .entry)) ⌝ }
 {
-    match kind {
+    match serial {
         0 => Value::Null,
         1 => Value::Integer(be_i8(part) as i64),
         2 => Value::Integer(be_i16(part) as i64),
@@ -40,19 +40,19 @@ pub fn value_of(kind: u64, part: &[u8], at: usize) -> Value
         }
         8 => Value::Integer(0),
         9 => Value::Integer(1),
-        _ => long(kind, at),
+        _ => long(serial, at),
     }
 }
 
 // A text or a blob, by its type. (Types 10 and 11 have no value: a record with one is refused.)
-fn long(kind: u64, at: usize) -> Value
-    ensures { λ r. ⌜ r ≡ longOf kind at ⌝ }
+fn long(serial: u64, at: usize) -> Value
+    ensures { λ r. ⌜ r ≡ longOf serial at ⌝ }
 {
-    if kind < 12 {
+    if serial < 12 {
         return Value::Null;
     }
-    let len = ((kind - 12) / 2) as usize;
-    if kind % 2 == 0 {
+    let len = ((serial - 12) / 2) as usize;
+    if serial % 2 == 0 {
         return Value::Blob { at, len };
     }
     Value::Text { at, len }

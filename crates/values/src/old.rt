@@ -24,10 +24,10 @@ pub enum Value {
 }
 
 // The value of a serial type whose bytes begin the part, which stands at `at` of the caller's bytes.
-pub fn value_of(kind: u64, part: &[u8], at: usize) -> Value
-    ensures { λ r. ⌜ r ≡ valueOf kind at (now (part .entry)) ⌝ }
+pub fn value_of(serial: u64, part: &[u8], at: usize) -> Value
+    ensures { λ r. ⌜ r ≡ valueOf serial at (now (part .entry)) ⌝ }
 {
-    match kind {
+    match serial {
         0 => Value::Null,
         1 => Value::I8(be_i8(part)),
         2 => Value::I16(be_i16(part)),
@@ -44,19 +44,19 @@ pub fn value_of(kind: u64, part: &[u8], at: usize) -> Value
         }
         // The Rust shows 0 for both, and so does this reading.
         8 | 9 => Value::I8(0),
-        _ => long(kind, at),
+        _ => long(serial, at),
     }
 }
 
 // A text or a blob, by its type; with no bytes it is null.
-fn long(kind: u64, at: usize) -> Value
-    ensures { λ r. ⌜ r ≡ longOf kind at ⌝ }
+fn long(serial: u64, at: usize) -> Value
+    ensures { λ r. ⌜ r ≡ longOf serial at ⌝ }
 {
-    if kind < 14 {
+    if serial < 14 {
         return Value::Null;
     }
-    let len = ((kind - 12) / 2) as usize;
-    if kind % 2 == 0 {
+    let len = ((serial - 12) / 2) as usize;
+    if serial % 2 == 0 {
         return Value::Blob { at, len };
     }
     Value::Text { at, len }

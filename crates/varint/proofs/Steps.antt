@@ -9,7 +9,7 @@ use lib.Seq.{drop-cons}
 use borrow.Author.Tests.{lt-ltb, le-ltb, eq-eqb, ne-eqb}
 use Rattle.varint.specs.declared.Varint.the-variants.{Value, Unfinished}
 use Rattle.varint.specs.declared.Cause.the-variants.{CutShort, WithoutEnd}
-use Rattle.varint.specs.Varint.{scan}
+use Rattle.varint.specs.Varint.{number, scan}
 
 -- of at most `limit` bytes of s, i are read and give v
 module _ (limit : ℕ) (s : List ℕ) (i v : ℕ) where
@@ -29,11 +29,11 @@ module _ (limit : ℕ) (s : List ℕ) (i v : ℕ) where
       at-byte : scan (limit - i) i v (drop i s) ≡ scan (suc (limit - (i + 1))) i v (getD s i 0 ∷ drop (i + 1) s)
       at-byte = rw (more, add-one, drop-cons s i 0)
 
-      pub ninth : i ≡ 8 → scan (limit - i) i v (drop i s) ≡ Value (v * 256 + getD s i 0) 9
+      pub ninth : i ≡ 8 → scan (limit - i) i v (drop i s) ≡ Value (number (v * 256 + getD s i 0) 9)
       unfolding scan
       ninth h = at-byte ∙ simp (scan, eq-eqb i 8 h)
 
-      pub last : (i ≡ 8 → ⊥) → getD s i 0 < 128 → scan (limit - i) i v (drop i s) ≡ Value (v * 128 + getD s i 0) (i + 1)
+      pub last : (i ≡ 8 → ⊥) → getD s i 0 < 128 → scan (limit - i) i v (drop i s) ≡ Value (number (v * 128 + getD s i 0) (i + 1))
       unfolding scan
       last h k = at-byte ∙ simp (scan, ne-eqb i 8 h, lt-ltb (getD s i 0) 128 k)
 

@@ -10,9 +10,14 @@ use Prim.Native.Nat.{ℕ, zero, suc, _+_, _*_, _%_}
 use mathlib.Core.List.{List, [], _∷_}
 use mathlib.Core.Bool.{true, false}
 use lib.Dec.{ltb, eqb}
+use Rattle.varint.specs.declared.Number.{Number}
 use Rattle.varint.specs.declared.Varint.{Varint}
 use Rattle.varint.specs.declared.Varint.the-variants.{Value, Unfinished}
 use Rattle.varint.specs.declared.Cause.the-variants.{CutShort, WithoutEnd}
+
+-- a number that took so many bytes
+abbrev pub number : ℕ → ℕ → Number
+number v n = record { value = v; length = n }
 
 -- `more` bytes may still be read; n are read, all with the top bit set, and give v
 unfoldable pub scan : ℕ → ℕ → ℕ → List ℕ → Varint
@@ -20,9 +25,9 @@ scan zero n v s = Unfinished WithoutEnd
 scan (suc more) n v [] = Unfinished CutShort
 scan (suc more) n v (b ∷ s) =
     elim (eqb n 8) [
-      | true ↦ Value (v * 256 + b) 9
+      | true ↦ Value (number (v * 256 + b) 9)
       | false ↦ elim (ltb b 128) [
-        | true ↦ Value (v * 128 + b) (n + 1)
+        | true ↦ Value (number (v * 128 + b) (n + 1))
         | false ↦ scan more (n + 1) (v * 128 + b % 128) s
       ]
     ]

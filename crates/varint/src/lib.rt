@@ -6,9 +6,14 @@
 ghost use mathlib.Core.Path.{_≡_};
 ghost use Rattle.varint.specs.Varint.{varintOf};
 
+// A number, and how many bytes it took.
+pub struct Number {
+    pub value: u64,
+    pub length: usize,
+}
+
 pub enum Varint {
-    // The number, and how many bytes it took.
-    Value { value: u64, length: usize },
+    Value(Number),
     // No number.
     Unfinished(Cause),
 }
@@ -41,10 +46,10 @@ pub fn read(s: &[u8], limit: usize) -> Varint
     if 128 <= b {
         return read_on(s, limit);
     }
-    Varint::Value {
+    Varint::Value(Number {
         value: b,
         length: 1,
-    }
+    })
 }
 
 // The same, byte by byte.
@@ -62,16 +67,16 @@ fn read_on(s: &[u8], limit: usize) -> Varint
         }
         let b = s[i] as u64;
         if i == 8 {
-            break Varint::Value {
+            break Varint::Value(Number {
                 value: value * 256 + b,
                 length: 9,
-            };
+            });
         }
         if b < 128 {
-            break Varint::Value {
+            break Varint::Value(Number {
                 value: value * 128 + b,
                 length: i + 1,
-            };
+            });
         }
         value = value * 128 + b % 128;
         i += 1;

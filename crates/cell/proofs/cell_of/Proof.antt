@@ -1,53 +1,75 @@
--- A child stands before the rest of an interior cell, and nothing before that of a leaf.
-use mathlib.Core.Path.{sym, ap, _∙_}
+-- The numbers first; what follows them, where the kind has a payload.
+use Prim.Native.Nat.{_≤_}
+use mathlib.Core.Path.{_≡_, sym, _∙_}
+use native.Mathlib.Omega.{arith}
+use lib.ListN.{length}
 use denote.Ref.{now}
 use Rattle.laws.proofs.Parts.{tail}
-use Rattle.cell.specs.Cell.{answerOf}
-use Rattle.cell.proofs.Laws.{child-cut, child-taken}
+use Rattle.answers.specs.Answer.{shown}
+use Rattle.cell.specs.Numbers.{numbersOf}
+use Rattle.cell.specs.Cell.{cellOf}
+use Rattle.cell.proofs.Laws.{numbered}
+use Rattle.cell.proofs.Kept.{numbers-kept, numbers-cut}
+use Rattle.cell.proofs.Inside.{none-begin}
 use borrow.Author.Needs.{needs}
 use Rattle.cell.proofs.cell_of.Statement.{statement}
 use Rattle.cell.proofs.cell_of.Tie as tie
 
-child-bytes-requires : tie.Need-child-bytes-requires
-child-bytes-requires c κs = search needs
+-- the numbers that were read
+numbers : (c : tie.After-known-told) → let a = c .before .before .before .before .before .args in numbersOf (a .reading) (a .kind) (now (a .s)) ≡ shown (c .before .numbers .given .0 .0)
+numbers c = numbers-kept _ (sym (c .before .before .before .numbers-of .ensures) ∙ c .before .numbers .given .1)
+
+lies : (c : tie.After-known-told) → c .before .numbers .given .0 .0 .length ≤ length (now (c .before .before .before .before .before .args .s))
+lies c = let a = c .before .before .before .before .before .args in numbered (a .reading) (a .kind) (now (a .s)) (numbers c) .within
+
+numbers-of-requires : tie.Need-numbers-of-requires
+numbers-of-requires c κs = search needs
+
+enum-known-numbers : tie.Need-enum-known-numbers
+enum-known-numbers c = search needs
+
+enum-told : tie.Need-enum-told
+enum-told c = search needs
 
 returns : tie.Need-returns
-returns c =
-    let a = c .before .before .before .args in
-    sym (ap answerOf (child-cut (a .reading) (a .kind) (a .usable) (now (a .s)) (rw (← c .before .child-bytes .ensures) (c .if1 .taken))))
+unfolding cellOf
+returns c = rw (numbers-cut _ _ _ (sym (c .before .before .numbers-of .ensures) ∙ c .enum-told .given .1))
 
-sub-childed-of : tie.Need-sub-childed-of
-sub-childed-of c = search needs
+has-size-requires : tie.Need-has-size-requires
+has-size-requires c κs = search needs
 
-part-childed-of-start : tie.Need-part-childed-of-start
-part-childed-of-start c = search needs
+sub-behind-of : tie.Need-sub-behind-of
+sub-behind-of c = omega (arith, lies (c .before .before))
 
-part-childed-of-end : tie.Need-part-childed-of-end
-part-childed-of-end c = search needs
+part-behind-of-start : tie.Need-part-behind-of-start
+part-behind-of-start c = omega (arith, lies (c .before .before))
 
-child-of-requires : tie.Need-child-of-requires
-child-of-requires c κs = search needs
+part-behind-of-end : tie.Need-part-behind-of-end
+part-behind-of-end c = search needs
 
-childed-of-requires : tie.Need-childed-of-requires
-childed-of-requires c κs = search needs
+behind-of-requires : tie.Need-behind-of-requires
+behind-of-requires c κs = search needs
 
 returns-2 : tie.Need-returns-2
-returns-2 c =
-    let a = c .before .before .before .before .before .before .args in
-    let own = c .before .before .before .before .child-bytes .ensures in
-    c .childed-of .ensures
-    ∙ rw (tail (now (a .s)) _, own, c .before .child-of .ensures)
-    (sym (ap answerOf (child-taken (a .reading) (a .kind) (a .usable) (now (a .s)) (rw (← own) (c .before .before .before .if1 .left)))))
+unfolding cellOf
+returns-2 c = rw (numbers (c .before .before .before .before), sym (c .before .before .before .has-size .ensures) ∙ c .before .before .if1 .taken) (rw (tail _ _) at (c .behind-of .ensures))
+
+returns-3 : tie.Need-returns-3
+unfolding cellOf
+returns-3 c = rw (numbers (c .before .before .before), sym (c .before .before .has-size .ensures) ∙ c .before .if1 .left, none-begin (c .before .before .before .before .before .before .before .before .args .reading))
 
 pub cell-of-spec : {M : Type 1} → statement M
 cell-of-spec =
     tie.close
     (tie.spec
-    child-bytes-requires
+    numbers-of-requires
+    enum-known-numbers
+    enum-told
     returns
-    sub-childed-of
-    part-childed-of-start
-    part-childed-of-end
-    child-of-requires
-    childed-of-requires
-    returns-2)
+    has-size-requires
+    sub-behind-of
+    part-behind-of-start
+    part-behind-of-end
+    behind-of-requires
+    returns-2
+    returns-3)

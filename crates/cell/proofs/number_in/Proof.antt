@@ -1,4 +1,4 @@
--- What is there is read, and what is not takes no bytes.
+-- What is there is read; else it is the other number.
 use borrow.Author.Needs.{needs}
 use Rattle.cell.proofs.number_in.Statement.{statement}
 use Rattle.cell.proofs.number_in.Tie as tie
@@ -10,7 +10,7 @@ returns : tie.Need-returns
 returns c = rw (c .before .if1 .taken) (c .read .ensures)
 
 returns-2 : tie.Need-returns-2
-returns-2 c = search needs
+returns-2 c = rw (c .if1 .left)
 
 pub number-in-spec : {M : Type 1} → statement M
 number-in-spec = tie.close (tie.spec read-requires returns returns-2)

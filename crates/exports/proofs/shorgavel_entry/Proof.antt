@@ -1,16 +1,20 @@
--- The entry for the page's key.
+-- The entry of the page as its reading opens it.
 use borrow.Author.Needs.{needs}
 use Rattle.exports.proofs.shorgavel_entry.Statement.{statement}
 use Rattle.exports.proofs.shorgavel_entry.Tie as tie
 
-key-of-requires : tie.Need-key-of-requires
-key-of-requires c κs = search needs
+page-of-requires : tie.Need-page-of-requires
+page-of-requires c κs = search needs
 
-entry-at-requires : tie.Need-entry-at-requires
-entry-at-requires c κs = search needs
+open-page-requires : tie.Need-open-page-requires
+open-page-requires c κs = search needs
+
+entry-by-requires : tie.Need-entry-by-requires
+entry-by-requires c κs = search needs
 
 returns : tie.Need-returns
-returns c = rw (c .before .key-of .ensures) at (c .entry-at .ensures)
+returns c = rw (c .before .open-page .ensures, c .before .before .page-of .ensures) at (c .entry-by .ensures)
 
 pub shorgavel-entry-spec : {M : Type 1} → statement M
-shorgavel-entry-spec = tie.close (tie.spec key-of-requires entry-at-requires returns)
+shorgavel-entry-spec =
+    tie.close (tie.spec page-of-requires open-page-requires entry-by-requires returns)

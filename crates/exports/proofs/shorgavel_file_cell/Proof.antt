@@ -1,4 +1,4 @@
--- The cell of the page's key, turned.
+-- The cell of the page, turned.
 use borrow.Author.Needs.{needs}
 use Rattle.exports.proofs.shorgavel_file_cell.Statement.{statement}
 use Rattle.exports.proofs.shorgavel_file_cell.Tie as tie

@@ -1,4 +1,4 @@
--- The table leaf of the guarded reading, or the page of the key, turned.
+-- The table leaf of the guarded reading, or the page of its reading, turned.
 use mathlib.Core.Path.{sym, _∙_}
 use borrow.Author.Needs.{needs}
 use Rattle.exports.proofs.shorgavel_open.Statement.{statement}
@@ -17,8 +17,8 @@ returns : tie.Need-returns
 returns c = let g = sym (c .before .before .before .is-guarded .ensures) ∙ c .before .before .if1 .taken in
     rw g (rw (c .before .open-page .ensures) at (c .opening-by .ensures))
 
-key-of-requires : tie.Need-key-of-requires
-key-of-requires c κs = search needs
+page-of-requires : tie.Need-page-of-requires
+page-of-requires c κs = search needs
 
 open-page-requires-2 : tie.Need-open-page-requires-2
 open-page-requires-2 c κs = search needs
@@ -31,7 +31,7 @@ opening-by-requires-2 c κs = search needs
 
 returns-2 : tie.Need-returns-2
 returns-2 c = let g = sym (c .before .before .before .before .before .is-guarded .ensures) ∙ c .before .before .before .before .if1 .left in
-    rw g (rw (c .before .told .ensures, c .before .before .open-page2 .ensures, c .before .before .before .key-of .ensures) at (c .opening-by2 .ensures))
+    rw g (rw (c .before .told .ensures, c .before .before .open-page2 .ensures, c .before .before .before .page-of .ensures) at (c .opening-by2 .ensures))
 
 pub shorgavel-open-spec : {M : Type 1} → statement M
 shorgavel-open-spec =
@@ -41,7 +41,7 @@ shorgavel-open-spec =
     open-page-requires
     opening-by-requires
     returns
-    key-of-requires
+    page-of-requires
     open-page-requires-2
     told-requires
     opening-by-requires-2

@@ -1,6 +1,7 @@
 -- The count is the found cell's.
-use mathlib.Core.Path.{sym, _∙_}
+use mathlib.Core.Path.{sym, ap, _∙_}
 use denote.Ref.{now}
+use Rattle.row.specs.Row.{countBy}
 use Rattle.row.proofs.Told.{told-refused, told-shown}
 use Rattle.guarded.specs.Guarded.{locatedOf, countOf}
 use borrow.Author.Needs.{needs}
@@ -20,13 +21,13 @@ returns : tie.Need-returns
 unfolding countOf
 returns c =
     let a = c .before .before .before .before .before .args in
-    sym (told-refused (locatedOf (a .number) (a .i) (now (a .db))) (sym (c .before .before .before .found .ensures) ∙ c .before .answer .given .1) .0)
+    sym (ap countBy (told-refused (locatedOf (a .number) (a .i) (now (a .db))) (sym (c .before .before .before .found .ensures) ∙ c .before .answer .given .1)))
 
 returns-2 : tie.Need-returns-2
 unfolding countOf
 returns-2 c =
-    let a = c .before .before .before .before .before .args in
-    sym (told-shown (locatedOf (a .number) (a .i) (now (a .db))) (sym (c .before .before .before .found .ensures) ∙ c .before .answer2 .given .1) .0)
+    let a = c .before .before .before .before .before .before .args in
+    sym (told-shown (locatedOf (a .number) (a .i) (now (a .db))) (sym (c .before .before .before .before .found .ensures) ∙ c .before .before .answer2 .given .1) .0)
 
 pub count-spec : {M : Type 1} → statement M
 count-spec =

@@ -1,8 +1,5 @@
 -- The cursor is the found cell's.
-use mathlib.Core.Path.{sym, _∙_}
-use denote.Ref.{now}
-use Rattle.row.proofs.Told.{told-refused, told-shown}
-use Rattle.guarded.specs.Guarded.{locatedOf, cursorOf}
+use Rattle.guarded.specs.Guarded.{cursorOf}
 use borrow.Author.Needs.{needs}
 use Rattle.guarded.proofs.cursor.Statement.{statement}
 use Rattle.guarded.proofs.cursor.Tie as tie
@@ -10,24 +7,12 @@ use Rattle.guarded.proofs.cursor.Tie as tie
 found-requires : tie.Need-found-requires
 found-requires c κs = search needs
 
-enum-known-answer : tie.Need-enum-known-answer
-enum-known-answer c = search needs
-
-enum-known-answer-2 : tie.Need-enum-known-answer-2
-enum-known-answer-2 c = search needs
+cursor-of-requires : tie.Need-cursor-of-requires
+cursor-of-requires c κs = search needs
 
 returns : tie.Need-returns
 unfolding cursorOf
-returns c =
-    let a = c .before .before .before .before .before .args in
-    sym (told-refused (locatedOf (a .number) (a .i) (now (a .db))) (sym (c .before .before .before .found .ensures) ∙ c .before .answer .given .1) .2)
-
-returns-2 : tie.Need-returns-2
-unfolding cursorOf
-returns-2 c =
-    let a = c .before .before .before .before .before .args in
-    sym (told-shown (locatedOf (a .number) (a .i) (now (a .db))) (sym (c .before .before .before .found .ensures) ∙ c .before .answer2 .given .1) .2)
+returns c = rw (c .before .found .ensures) at (c .cursor-of .ensures)
 
 pub cursor-spec : {M : Type 1} → statement M
-cursor-spec =
-    tie.close (tie.spec found-requires enum-known-answer enum-known-answer-2 returns returns-2)
+cursor-spec = tie.close (tie.spec found-requires cursor-of-requires returns)

@@ -1,8 +1,10 @@
--- The cell is that of the page which was opened.
-use mathlib.Core.Path.{sym, _∙_}
+-- The page decides first, then the cell.
+use mathlib.Core.Path.{sym, ap, _∙_}
 use denote.Ref.{now}
-use Rattle.guarded.specs.Guarded.{locatedOf}
-use Rattle.guarded.proofs.Stages.{found-again}
+use Rattle.page.proofs.Laws.{open-answered, open-unanswered}
+use Rattle.row.specs.Found.{foundBy}
+use Rattle.guarded.specs.Guarded.{openOf}
+use Rattle.guarded.proofs.Guard.{guarded-unopened, guarded-open}
 use borrow.Author.Needs.{needs}
 use Rattle.guarded.proofs.found.Statement.{statement}
 use Rattle.guarded.proofs.found.Tie as tie
@@ -20,13 +22,16 @@ found-in-requires : tie.Need-found-in-requires
 found-in-requires c κs = search needs
 
 returns : tie.Need-returns
-unfolding locatedOf
-returns c = rw (sym (c .before .before .before .open-page .ensures) ∙ c .before .answer .given .1)
+returns c =
+    let a = c .before .before .before .before .before .args in
+    let e = open-unanswered (openOf (a .number) (now (a .db))) (sym (c .before .before .before .open-page .ensures) ∙ c .before .answer .given .1) in
+    sym (ap foundBy (guarded-unopened (a .number) (a .i) (now (a .db)) e))
 
 returns-2 : tie.Need-returns-2
 returns-2 c =
     let a = c .before .before .before .before .before .before .args in
-    c .found-in .ensures ∙ found-again (a .number) (a .i) (now (a .db)) _ (sym (c .before .before .before .before .open-page .ensures) ∙ c .before .before .answer2 .given .1)
+    let e = open-answered (openOf (a .number) (now (a .db))) (sym (c .before .before .before .before .open-page .ensures) ∙ c .before .before .answer2 .given .1) in
+    c .found-in .ensures ∙ sym (ap foundBy (guarded-open (a .number) (a .i) (now (a .db)) e))
 
 pub found-spec : {M : Type 1} → statement M
 found-spec =

@@ -3,7 +3,8 @@ use mathlib.Core.Path.{sym, ap, _∙_}
 use mir.Syntax.{w64}
 use mir.Facts.{toZ-ofZ}
 use denote.Ref.{now}
-use Rattle.row.specs.declared.RowAnswer.the-variants as ro
+use Rattle.row.specs.declared.RowNumberAnswer.the-variants as ro
+use Rattle.row.specs.Row.{rowBy}
 use Rattle.row.proofs.Told.{told-refused, told-shown}
 use Rattle.guarded.specs.Guarded.{locatedOf, rowOf}
 use borrow.Author.Needs.{needs}
@@ -26,14 +27,14 @@ returns : tie.Need-returns
 unfolding rowOf
 returns c =
     let a = c .before .before .before .before .before .args in
-    sym (told-refused (locatedOf (a .number) (a .i) (now (a .db))) (sym (c .before .before .before .found .ensures) ∙ c .before .answer .given .1) .1)
+    sym (ap rowBy (told-refused (locatedOf (a .number) (a .i) (now (a .db))) (sym (c .before .before .before .found .ensures) ∙ c .before .answer .given .1)))
 
 returns-2 : tie.Need-returns-2
 unfolding rowOf
 returns-2 c =
-    let a = c .before .before .before .before .before .before .before .args in
+    let a = c .before .before .before .before .before .before .before .before .args in
     ap ro.Shown (toZ-ofZ {w = w64} (record { sfits = c .signed-of .ok }) ∙ c .signed-of .ensures)
-    ∙ sym (told-shown (locatedOf (a .number) (a .i) (now (a .db))) (sym (c .before .before .before .before .before .found .ensures) ∙ c .before .before .before .answer2 .given .1) .1)
+    ∙ sym (told-shown (locatedOf (a .number) (a .i) (now (a .db))) (sym (c .before .before .before .before .before .before .found .ensures) ∙ c .before .before .before .before .answer2 .given .1) .1)
 
 pub row-number-spec : {M : Type 1} → statement M
 row-number-spec =

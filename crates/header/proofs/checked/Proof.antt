@@ -8,7 +8,7 @@ use denote.Ref.{now}
 use borrow.Author.Needs.{needs}
 use borrow.Author.Tests.{lt-ltb, le-ltb}
 use Rattle.answers.specs.Checks.{first}
-use Rattle.answers.specs.declared.Reason.the-variants as re
+use Rattle.answers.specs.declared.Flaw.the-variants as fl
 use Rattle.header.specs.Header.{bothChecks, checkedOf}
 use Rattle.header.proofs.Steps.{encoding-known, encoding-unknown}
 use Rattle.header.proofs.Laws.{fails, goes-on}
@@ -39,7 +39,7 @@ encoded c =
 returns : tie.Need-returns
 returns c =
     let a = c .before .before .args in
-    fails (now (a .db)) (a .reading) re.OverLimit (rw (lt-ltb 1073741824 (length (now (a .db))) (c .if1 .taken)))
+    fails (now (a .db)) (a .reading) fl.OverLimit (rw (lt-ltb 1073741824 (length (now (a .db))) (c .if1 .taken)))
 
 opens-requires : tie.Need-opens-requires
 opens-requires c κs = search needs
@@ -47,13 +47,13 @@ opens-requires c κs = search needs
 returns-2 : tie.Need-returns-2
 returns-2 c =
     let a = c .before .before .before .before .args in
-    fails (now (a .db)) (a .reading) re.OpeningDiffers
+    fails (now (a .db)) (a .reading) fl.OpeningDiffers
     (limited (c .before .before) ∙ rw (← c .before .opens .ensures, c .if2 .taken))
 
 returns-3 : tie.Need-returns-3
 returns-3 c =
     let a = c .before .before .before .before .before .args in
-    fails (now (a .db)) (a .reading) re.HeaderCut
+    fails (now (a .db)) (a .reading) fl.HeaderCut
     (opened (c .before) ∙ rw (lt-ltb (length (now (a .db))) 100 (c .if3 .taken)))
 
 field-requires : tie.Need-field-requires
@@ -63,14 +63,14 @@ returns-4 : tie.Need-returns-4
 returns-4 c =
     let a = c .before .before .before .before .before .before .before .args in
     let f = c .before .field in
-    fails (now (a .db)) (a .reading) re.EncodingUnknown
+    fails (now (a .db)) (a .reading) fl.EncodingUnknown
     (whole (c .before .before) ∙ rw (← f .ensures, encoding-unknown (f .result) (λ l h. omega arith)))
 
 returns-5 : tie.Need-returns-5
 returns-5 c =
     let a = c .before .before .before .before .before .before .before .before .args in
     let f = c .before .before .field in
-    fails (now (a .db)) (a .reading) re.EncodingUnknown
+    fails (now (a .db)) (a .reading) fl.EncodingUnknown
     (whole (c .before .before .before) ∙ rw (← f .ensures, encoding-unknown (f .result) (λ l h. omega arith)))
 
 enum-told : tie.Need-enum-told

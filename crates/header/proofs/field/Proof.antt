@@ -1,33 +1,33 @@
 -- Every field of the table lies in the first hundred bytes and has at most four.
 use Prim.Native.Nat.{_+_, _≤_}
-use mathlib.Core.Path.{_≡_, _∙_}
+use mathlib.Core.Path.{_∙_}
 use native.Mathlib.Nat.{le-trans}
 use native.Mathlib.Omega.{arith}
+use lib.ListN.{getD}
 use denote.Ref.{now}
+use Rattle.tables.specs.Tables.{fieldAt, fieldWidth}
 use Rattle.header.specs.Header.{fieldOf}
-use Rattle.header.proofs.Steps.{entry, within, sums, read}
+use Rattle.header.proofs.Steps.{within, read}
 use borrow.Author.Needs.{needs}
 use Rattle.header.proofs.field.Statement.{statement}
 use Rattle.header.proofs.field.Tie as tie
 
--- where the field stands by the sums is where it stands by the table
-lies : (c : tie.After-bytes-of)
-    → (c .before .place-of .result ≡ entry (c .before .before .before .args .i) .at) × (c .bytes-of .result ≡ entry (c .before .before .before .args .i) .width)
-lies c =
-    let s = c .before .before .before in
-    let e = sums (s .args .i) (s .pre .0) in
-    (c .before .place-of .ensures ∙ e .0, c .bytes-of .ensures ∙ e .1)
-
-within-bytes : (c : tie.After-bytes-of) → c .before .place-of .result + c .bytes-of .result ≤ 100
+within-bytes : (c : tie.After-wide2) → c .before .wide .result + c .wide2 .result ≤ 100
 within-bytes c =
     let s = c .before .before .before in
-    rw (lies c .0, lies c .1) (within (s .args .i) (s .pre .0) .1)
+    rw (c .before .wide .ensures, c .wide2 .ensures) (within (s .args .i) (s .pre .0) .1)
 
-place-of-requires : tie.Need-place-of-requires
-place-of-requires c κs = search needs
+array-read-wide : tie.Need-array-read-wide
+array-read-wide c = search needs
 
-bytes-of-requires : tie.Need-bytes-of-requires
-bytes-of-requires c κs = search needs
+wide-requires : tie.Need-wide-requires
+wide-requires c κs = search needs
+
+array-read-wide-2 : tie.Need-array-read-wide-2
+array-read-wide-2 c = search needs
+
+wide-requires-2 : tie.Need-wide-requires-2
+wide-requires-2 c κs = search needs
 
 add-end : tie.Need-add-end
 add-end c = omega (arith, within-bytes c)
@@ -49,17 +49,19 @@ unfolding fieldOf
 returns c =
     let k = c .before .before in
     let s = k .before .before .before in
-    let f = entry (s .args .i) in
+    let i = s .args .i in
     c .be-u32 .ensures
-    ∙ rw (lies k .0, lies k .1)
-    (read (now (s .args .db)) (f .at) (f .width) (within (s .args .i) (s .pre .0) .0))
+    ∙ rw (k .before .wide .ensures, k .wide2 .ensures)
+    (read (now (s .args .db)) (getD fieldAt i 0) (getD fieldWidth i 0) (within i (s .pre .0) .0))
 
 pub field-spec : {M : Type 1} → statement M
 field-spec =
     tie.close
     (tie.spec
-    place-of-requires
-    bytes-of-requires
+    array-read-wide
+    wide-requires
+    array-read-wide-2
+    wide-requires-2
     add-end
     sub-be-u32
     part-be-u32-start

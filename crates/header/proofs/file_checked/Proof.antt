@@ -9,7 +9,7 @@ use denote.Ref.{now}
 use borrow.Author.Needs.{needs}
 use borrow.Author.Tests.{lt-ltb, le-ltb, eq-eqb, ne-eqb}
 use Rattle.answers.specs.Checks.{check, first}
-use Rattle.answers.specs.declared.Reason.the-variants.{FractionsDiffer}
+use Rattle.answers.specs.declared.Flaw.the-variants.{FractionsDiffer}
 use Rattle.header.specs.Header.{fieldOf, fileChecks, sizes}
 use Rattle.header.proofs.Steps.{one-among, none-among}
 use Rattle.header.proofs.file_checked.Statement.{statement}

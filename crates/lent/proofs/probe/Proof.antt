@@ -7,13 +7,16 @@ use native.Mathlib.Nat.{not-suc-le-zero, le-of-suc-le-suc}
 use mathlib.Core.List.{List, [], _∷_}
 use lib.ListN.{length, getD, List·getD-eq-default}
 use borrow.Author.Needs.{needs}
-use Rattle.page.specs.declared.Entry.{Entry}
-use Rattle.page.specs.declared.PageAnswer.{PageAnswer}
-use Rattle.page.specs.Page.{pageOf, written}
+use Rattle.table.specs.declared.Entry.{Entry}
+use Rattle.table.specs.declared.PageAnswer.{PageAnswer}
+use Rattle.place.specs.declared.Page.{Page}
+use Rattle.table.specs.Page.{pageOf, written}
+use Rattle.page.specs.Open.{openOf, openAnswer}
 use Rattle.lent.specs.declared.Probed.{Probed}
 use Rattle.lent.specs.declared.Returned.{Returned}
 use Rattle.lent.specs.Probe.{blank, blanks, returnedOf, probeOf}
-use Rattle.lent.proofs.Filled.{filled-length, cells-within}
+use Rattle.table.proofs.Laws.{cells-within}
+use Rattle.lent.proofs.Filled.{filled-length}
 use Rattle.lent.proofs.probe.Statement.{statement}
 use Rattle.lent.proofs.probe.Tie as tie
 
@@ -26,21 +29,21 @@ place-any [] i d e h = absurd (not-suc-le-zero h)
 place-any (x ∷ l) zero d e h = refl
 place-any (x ∷ l) (suc i) d e h = place-any l i d e (le-of-suc-le-suc h)
 
-eight : (key : ℕ) (db : List ℕ) → length (returnedOf key db blanks .table) ≡ 8
+eight : (asked : Page) (db : List ℕ) → length (returnedOf asked db blanks .table) ≡ 8
 unfolding returnedOf
-eight key db = filled-length key db (written (pageOf key 8 db)) blanks (cells-within key 8 db)
+eight asked db = filled-length (openAnswer (openOf asked db)) db (written (pageOf asked 8 db)) blanks (cells-within (openAnswer (openOf asked db)) 8 db)
 
-below : (r : Returned) (i key : ℕ) (db : List ℕ) (d : Entry) → r ≡ returnedOf key db blanks → i < 8 → both (r .answer) (getD (r .table) i d) ≡ probeOf i key db
+below : (r : Returned) (i : ℕ) (asked : Page) (db : List ℕ) (d : Entry) → r ≡ returnedOf asked db blanks → i < 8 → both (r .answer) (getD (r .table) i d) ≡ probeOf i asked db
 unfolding probeOf
-below r i key db d e l =
+below r i asked db d e l =
     ap (λ (t : Returned). both (t .answer) (getD (t .table) i d)) e
-    ∙ ap (both (returnedOf key db blanks .answer)) (place-any (returnedOf key db blanks .table) i d blank (subst (λ (n : ℕ). i < n) (sym (eight key db)) l))
+    ∙ ap (both (returnedOf asked db blanks .answer)) (place-any (returnedOf asked db blanks .table) i d blank (subst (λ (n : ℕ). i < n) (sym (eight asked db)) l))
 
-above : (r : Returned) (i key : ℕ) (db : List ℕ) → r ≡ returnedOf key db blanks → 8 ≤ i → both (r .answer) blank ≡ probeOf i key db
+above : (r : Returned) (i : ℕ) (asked : Page) (db : List ℕ) → r ≡ returnedOf asked db blanks → 8 ≤ i → both (r .answer) blank ≡ probeOf i asked db
 unfolding probeOf
-above r i key db e l =
+above r i asked db e l =
     ap (λ (t : Returned). both (t .answer) blank) e
-    ∙ ap (both (returnedOf key db blanks .answer)) (sym (List·getD-eq-default (returnedOf key db blanks .table) blank (subst (λ (n : ℕ). n ≤ i) (sym (eight key db)) l)))
+    ∙ ap (both (returnedOf asked db blanks .answer)) (sym (List·getD-eq-default (returnedOf asked db blanks .table) blank (subst (λ (n : ℕ). n ≤ i) (sym (eight asked db)) l)))
 
 lend-requires : tie.Need-lend-requires
 lend-requires c κs = search needs

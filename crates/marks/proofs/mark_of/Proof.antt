@@ -9,6 +9,7 @@ use lib.ListN.{length, drop}
 use denote.Ref.{now}
 use borrow.Author.Needs.{needs}
 use borrow.Author.Tests.{lt-ltb, le-ltb}
+use Rattle.varint.specs.declared.Number.{Number}
 use Rattle.varint.specs.Varint.{varintOf}
 use Rattle.varint.specs.declared.Varint.the-variants as vi
 use Rattle.record.specs.Types.{typesOf}
@@ -72,16 +73,13 @@ module _ (c : Read) where
   abbrev place : ℕ
   place = c .before .before .before .before .before .before .loop .at
 
-  abbrev kind : ℕ
-  kind = c .before .v .given .0 .0
+  abbrev serial : Number
+  serial = c .before .v .given .0 .0
 
-  abbrev took : ℕ
-  took = c .before .v .given .0 .1 .0
-
-  found : varintOf most (drop place bytes) ≡ vi.Value kind took
+  found : varintOf most (drop place bytes) ≡ vi.Value serial
   found = read-at most bytes place (c .before .before .before .read .ensures) (c .before .v .given .1)
 
-  room : (1 ≤ took) × (place + took ≤ length bytes)
+  room : (1 ≤ serial .length) × (place + serial .length ≤ length bytes)
   room = room-at most bytes place (search needs) found
 
 enum-told : tie.Need-enum-told Inv-loop μ-loop
@@ -112,11 +110,11 @@ loop-again c =
     let next = types-at (most k) (bytes k) (place k) (found k) in
     let l = c .before .before .before .if3 in
     let o = c .before .before .if4 in
-    let long-too = either (h .long) (long (took k)) (l .long) (l .came) (λ t. t .taken) (λ t. t .left) in
-    let one-too = either (h .one) (eqb (kind k) 9) (o .one) (o .came) (λ t. t .taken) (λ t. t .left) in
-    let i = either (h .empty) (eqb (kind k) 12) (c .before .if5 .if6) (c .before .if5 .came) (λ t. t .taken) (λ t. t .left) in
-    let j = either (c .before .if5 .if6) (eqb (kind k) 13) (c .if6 .empty) (c .if6 .came) (λ t. t .taken) (λ t. t .left) in
-    let empty-too = j ∙ ap (λ (b : Bool). b || eqb (kind k) 13) i ∙ or-assoc (h .empty) (eqb (kind k) 12) (eqb (kind k) 13) in (
+    let long-too = either (h .long) (long (serial k .length)) (l .long) (l .came) (λ t. t .taken) (λ t. t .left) in
+    let one-too = either (h .one) (eqb (serial k .value) 9) (o .one) (o .came) (λ t. t .taken) (λ t. t .left) in
+    let i = either (h .empty) (eqb (serial k .value) 12) (c .before .if5 .if6) (c .before .if5 .came) (λ t. t .taken) (λ t. t .left) in
+    let j = either (c .before .if5 .if6) (eqb (serial k .value) 13) (c .if6 .empty) (c .if6 .came) (λ t. t .taken) (λ t. t .left) in
+    let empty-too = j ∙ ap (λ (b : Bool). b || eqb (serial k .value) 13) i ∙ or-assoc (h .empty) (eqb (serial k .value) 12) (eqb (serial k .value) 13) in (
       room k .1,
       some-next longType (h .long) (l .long) _ long-too next (h .inv .1),
       some-next storedOne (h .one) (o .one) _ one-too next (h .inv .2),

@@ -1,7 +1,7 @@
 -- Each test by differences is one of the definition's by sums.
 use mathlib.Core.Path.{sym}
 use native.Mathlib.Omega.{arith}
-use Rattle.page.proofs.Again.{lies-not, ends-late, pointers-pass, lies-there}
+use Rattle.page.proofs.Opened.{lies-not, ends-late, pointers-pass, lies-there}
 use borrow.Author.Needs.{needs}
 use Rattle.page.proofs.lies.Statement.{statement}
 use Rattle.page.proofs.lies.Tie as tie

@@ -1,19 +1,15 @@
 -- Below zero the number is turned and one is added; from zero on it is itself.
-use mathlib.Core.Path.{_≡_, subst, ap}
-use mathlib.Core.Bool.{Bool, true, false}
+use mathlib.Core.Path.{_≡_, ap}
+use mathlib.Core.Bool.{true, false}
 use native.Mathlib.Omega.{arith}
-use lib.IntN.{ℤ, pos, negsuc, natAbs, _-ℤ_}
+use lib.IntN.{pos, negsuc, natAbs, _-ℤ_}
 use lib.Signed.{mag, ltZ}
 use mir.Syntax.{w64}
 use mir.Val.{SFits, toZ, ofZ}
 use mir.Facts.{toZ-ofZ, fits-natAbs}
-use Rattle.print.proofs.Signs.{turned, one-more, kept}
+use Rattle.print.proofs.Signs.{told, turned, one-more, kept}
 use Rattle.print.proofs.magnitude.Statement.{statement}
 use Rattle.print.proofs.magnitude.Tie as tie
-
--- the test is of the number as the machine holds it, and so is what is turned
-told : (z : ℤ) (b : Bool) → SFits w64 z → ltZ (toZ w64 (ofZ w64 z)) (pos 0) ≡ b → ltZ z (pos 0) ≡ b
-told z b fits h = subst (λ y. ltZ y (pos 0) ≡ b) (toZ-ofZ fits) h
 
 module _ (c : tie.Then1) where
   below : ltZ (c .before .args .z) (pos 0) ≡ true

@@ -7,7 +7,7 @@ use denote.Ref.{now}
 use borrow.Author.Needs.{needs}
 use Rattle.varint.specs.Varint.{varintOf}
 use Rattle.varint.specs.declared.Varint.the-variants as vi
-use Rattle.record.specs.Types.{num, column, typesOf, walk}
+use Rattle.record.specs.Types.{column, typesOf, walk}
 use Rattle.record.proofs.Laws.{read-at, room-at, types-at, types-break, types-end, walk-reserved, walk-passes, walk-on}
 use Rattle.record.proofs.lay.Statement.{statement}
 use Rattle.record.proofs.lay.Tie as tie
@@ -43,13 +43,13 @@ Read = tie.After-known-told Inv-loop μ-loop
 
 found : (c : Read)
     → varintOf (c .before .before .before .before .before .before .before .before .args .limit) (drop (c .before .before .before .before .before .before .loop .at) (now (c .before .before .before .before .before .before .before .before .args .t)))
-    ≡ vi.Value (c .before .v .given .0 .0) (c .before .v .given .0 .1 .0)
+    ≡ vi.Value (c .before .v .given .0 .0)
 found c =
     let a = c .before .before .before .before .before .before .before .before .args in
     read-at (a .limit) (now (a .t)) (c .before .before .before .before .before .before .loop .at) (c .before .before .before .read .ensures) (c .before .v .given .1)
 
 room : (c : Read)
-    → (1 ≤ c .before .v .given .0 .1 .0) × (c .before .before .before .before .before .before .loop .at + c .before .v .given .0 .1 .0 ≤ length (now (c .before .before .before .before .before .before .before .before .args .t)))
+    → (1 ≤ c .before .v .given .0 .0 .length) × (c .before .before .before .before .before .before .loop .at + c .before .v .given .0 .0 .length ≤ length (now (c .before .before .before .before .before .before .before .before .args .t)))
 room c =
     let a = c .before .before .before .before .before .before .before .before .args in
     room-at (a .limit) (now (a .t)) (c .before .before .before .before .before .before .loop .at) (search needs) (found c)
@@ -63,8 +63,8 @@ enum-known-width c = search needs
 -- the walk from here, with the column opened
 opened : (c : Read)
     → walk (c .before .before .before .before .before .before .loop .col) (c .before .before .before .before .before .before .loop .left)
-    (column (num (c .before .v .given .0 .0) (c .before .v .given .0 .1 .0))
-    (typesOf (c .before .before .before .before .before .before .before .before .args .limit) (drop (c .before .before .before .before .before .before .loop .at + c .before .v .given .0 .1 .0) (now (c .before .before .before .before .before .before .before .before .args .t)))))
+    (column (c .before .v .given .0 .0)
+    (typesOf (c .before .before .before .before .before .before .before .before .args .limit) (drop (c .before .before .before .before .before .before .loop .at + c .before .v .given .0 .0 .length) (now (c .before .before .before .before .before .before .before .before .args .t)))))
     ≡ walk 0 (c .before .before .before .before .before .before .before .before .args .room) (typesOf (c .before .before .before .before .before .before .before .before .args .limit) (now (c .before .before .before .before .before .before .before .before .args .t)))
 opened c =
     let a = c .before .before .before .before .before .before .before .before .args in
@@ -73,24 +73,24 @@ opened c =
 
 returns : tie.Need-returns Inv-loop μ-loop
 returns c =
-    sym (walk-passes _ _ _ _ _ _ (sym (c .before .before .before .before .width-of .ensures) ∙ c .before .before .width .given .1) (c .if1 .taken))
+    sym (walk-passes _ _ _ _ _ (sym (c .before .before .before .before .width-of .ensures) ∙ c .before .before .width .given .1) (c .if1 .taken))
     ∙ opened (c .before .before .before .before .before)
 
 add-at : tie.Need-add-at Inv-loop μ-loop
-add-at c = omega (arith, room (c .before .before .before .before .before))
+add-at c = omega (arith, room (c .before .before .before .before .before .before))
 
 add-col : tie.Need-add-col Inv-loop μ-loop
-add-col c = omega (arith, room (c .before .before .before .before .before))
+add-col c = omega (arith, room (c .before .before .before .before .before .before))
 
 loop-less : tie.Need-loop-less Inv-loop μ-loop
-loop-less c = omega (arith, room (c .before .before .before .before .before))
+loop-less c = omega (arith, room (c .before .before .before .before .before .before))
 
 loop-again : tie.Need-loop-again Inv-loop μ-loop
 loop-again c =
-    let k = c .before .before .before .before .before in (
+    let k = c .before .before .before .before .before .before in (
       omega (arith, room k),
       room k .1,
-      sym (walk-on _ _ _ _ _ _ (sym (c .before .before .before .before .width-of .ensures) ∙ c .before .before .width .given .1) (c .if1 .left)) ∙ opened k,
+      sym (walk-on _ _ _ _ _ (sym (c .before .before .before .before .before .width-of .ensures) ∙ c .before .before .before .width .given .1) (c .before .if1 .left)) ∙ opened k,
     )
 
 enum-told : tie.Need-enum-told Inv-loop μ-loop
@@ -98,7 +98,7 @@ enum-told c = search needs
 
 returns-2 : tie.Need-returns-2 Inv-loop μ-loop
 returns-2 c =
-    sym (walk-reserved _ _ _ _ _ (sym (c .before .before .width-of .ensures) ∙ c .enum-told .given .1)) ∙ opened (c .before .before .before)
+    sym (walk-reserved _ _ _ _ (sym (c .before .before .width-of .ensures) ∙ c .enum-told .given .1)) ∙ opened (c .before .before .before)
 
 enum-told-2 : tie.Need-enum-told-2 Inv-loop μ-loop
 enum-told-2 c = search needs

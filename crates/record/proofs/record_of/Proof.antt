@@ -1,8 +1,8 @@
 -- The header size is what the varint reader says, and the rest what `fit_of` says of the bytes behind it.
-use Prim.Native.Nat.{ℕ, _-_, _≤_}
+use Prim.Native.Nat.{ℕ, _+_, _-_, _≤_}
 use mathlib.Core.Path.{_≡_, sym, ap, _∙_}
 use native.Mathlib.Omega.{arith}
-use lib.ListN.{length, drop}
+use lib.ListN.{length, drop, length-drop}
 use denote.Ref.{now}
 use Rattle.laws.proofs.Parts.{tail}
 use Rattle.reading.specs.Reading.{limit}
@@ -10,7 +10,9 @@ use Rattle.varint.specs.declared.Varint.the-variants as vi
 use Rattle.varint.specs.Varint.{varintOf}
 use Rattle.varint.proofs.Laws.{length-bounds}
 use Rattle.record.specs.declared.RecordAnswer.the-variants as ra
+use Rattle.record.specs.declared.Fit.the-variants.{Fits}
 use Rattle.record.specs.Record.{counted, fitted}
+use Rattle.record.proofs.Accepted.{fits-headed}
 use Rattle.record.proofs.Stages.{record-headless, record-unfit, record-whole}
 use Rattle.record.proofs.Count.{fits-count}
 use borrow.Author.Needs.{needs}
@@ -23,8 +25,8 @@ limit-of-requires c κs = search needs
 read-requires : tie.Need-read-requires
 read-requires c κs = search needs
 
-enum-known-value : tie.Need-enum-known-value
-enum-known-value c = search needs
+enum-known-header : tie.Need-enum-known-header
+enum-known-header c = search needs
 
 enum-told : tie.Need-enum-told
 enum-told c = search needs
@@ -45,14 +47,13 @@ counted-of-requires c κs = search needs
 abbrev Read : Type 0
 Read = tie.After-known-told
 
-found : (c : Read)
-    → varintOf (limit (c .before .before .before .before .before .before .args .reading)) (now (c .before .before .before .before .before .before .args .q)) ≡ vi.Value (c .before .value .given .0 .0) (c .before .value .given .0 .1 .0)
+found : (c : Read) → let a = c .before .before .before .before .before .before .args in varintOf (limit (a .reading)) (now (a .q)) ≡ vi.Value (c .before .header .given .0 .0)
 found c =
     sym (ap (λ (l : ℕ). varintOf l (now (c .before .before .before .before .before .before .args .q))) (c .before .before .before .before .limit-of .ensures))
     ∙ sym (c .before .before .before .read .ensures)
-    ∙ c .before .value .given .1
+    ∙ c .before .header .given .1
 
-room : (c : Read) → c .before .value .given .0 .1 .0 ≤ length (now (c .before .before .before .before .before .before .args .q))
+room : (c : Read) → c .before .header .given .0 .0 .length ≤ length (now (c .before .before .before .before .before .before .args .q))
 room c = length-bounds (now (c .before .before .before .before .before .before .args .q)) _ (found c) .2
 
 sub-fit-of : tie.Need-sub-fit-of
@@ -74,18 +75,45 @@ enum-known-fitting-2 : tie.Need-enum-known-fitting-2
 enum-known-fitting-2 c = search needs
 
 -- what the call of `fit_of` said
-fits-is : (c : tie.After-fit-of)
-    → c .fit-of .result
-    ≡ fitted (c .before .before .before .before .before .before .before .before .before .args .reading) (counted (c .before .before .before .before .before .before .before .before .before .args .reading) (c .before .before .before .before .value .given .0 .1 .0)) (c .before .before .before .before .value .given .0 .0)
-    (drop (c .before .before .before .before .value .given .0 .1 .0) (now (c .before .before .before .before .before .before .before .before .before .args .q)))
-fits-is c = c .fit-of .ensures ∙ rw (tail (now (c .before .before .before .before .before .before .before .before .before .args .q)) _, c .before .before .counted-of .ensures)
+fits-is : (c : tie.After-fit-of) → let k = c .before .before .before in
+    let a = k .before .before .before .before .before .before .args in
+    let h = k .before .header .given .0 .0 in
+    c .fit-of .result ≡ fitted (a .reading) (counted (a .reading) (h .length)) (h .value) (drop (h .length) (now (a .q)))
+fits-is c = c .fit-of .ensures ∙ rw (tail _ _, c .before .before .counted-of .ensures)
+
+-- where all fits
+abbrev Fitting : Type 0
+Fitting = tie.After-struct-known
+
+fits : (c : Fitting) → let k = c .before .before .before .before .before .before .before in
+    let a = k .before .before .before .before .before .before .args in
+    let h = k .before .header .given .0 .0 in
+    fitted (a .reading) (counted (a .reading) (h .length)) (h .value) (drop (h .length) (now (a .q)))
+    ≡ Fits (c .before .before .fitting .given .0 .0) (c .before .before .fitting .given .0 .1 .0)
+fits c = sym (fits-is (c .before .before .before .before)) ∙ c .before .before .fitting .given .1
+
+-- so does the header
+headed : (c : Fitting) → let k = c .before .before .before .before .before .before .before in
+    let h = k .before .header .given .0 .0 in
+    let own = c .before .before .before .before .before .before .counted-of .result in
+    (own ≤ h .value) × (h .length + (h .value - own) ≤ length (now (k .before .before .before .before .before .before .args .q)))
+headed c =
+    let k = c .before .before .before .before .before .before .before in
+    let o = fits-headed _ _ _ _ (fits c) in
+    let l = rw length-drop at (o .room) in
+    rw (c .before .before .before .before .before .before .counted-of .ensures) (o .low, omega (arith, room k, l))
+
+sub-t17 : tie.Need-sub-t17
+sub-t17 c = omega (arith, headed c)
+
+add-t19 : tie.Need-add-t19
+add-t19 c = omega (arith, headed c)
 
 returns-2 : tie.Need-returns-2
 returns-2 c =
-    let k = c .before .before .before .before .before .before in
+    let k = c .before .before .before .before .before .before .before in
     let a = k .before .before .before .before .before .before .args in
-    let f = sym (fits-is (c .before .before .before)) ∙ c .before .fitting .given .1 in
-    rw (fits-count (a .reading) _ _ _ f) (sym (record-whole (a .reading) (now (a .q)) (found k) f))
+    rw (c .before .before .before .before .before .before .counted-of .ensures, fits-count (a .reading) _ _ _ (fits c)) (sym (record-whole (a .reading) (now (a .q)) (found k) (fits c)))
 
 returns-3 : tie.Need-returns-3
 returns-3 c =
@@ -99,7 +127,7 @@ record-of-spec =
     (tie.spec
     limit-of-requires
     read-requires
-    enum-known-value
+    enum-known-header
     enum-told
     headless-fault-requires
     returns
@@ -109,6 +137,8 @@ record-of-spec =
     part-fit-of-end
     fit-of-requires
     enum-known-fitting
+    sub-t17
+    add-t19
     enum-known-fitting-2
     returns-2
     returns-3)

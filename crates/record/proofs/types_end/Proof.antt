@@ -7,13 +7,13 @@ use denote.Ref.{now}
 use borrow.Author.Needs.{needs}
 use Rattle.varint.specs.Varint.{varintOf}
 use Rattle.varint.specs.declared.Varint.the-variants as vi
-use Rattle.record.specs.Types.{typesOf, closed}
+use Rattle.record.specs.Types.{typesOf, ended}
 use Rattle.record.proofs.Laws.{read-at, room-at, types-at, types-break, types-end}
 use Rattle.record.proofs.types_end.Statement.{statement}
 use Rattle.record.proofs.types_end.Tie as tie
 
 abbrev Inv-loop : tie.InvT-loop
-Inv-loop t limit at₀ at = (at ≤ length t) × (closed (typesOf limit (drop at t)) ≡ closed (typesOf limit t))
+Inv-loop t limit at₀ at = (at ≤ length t) × (ended (typesOf limit (drop at t)) ≡ ended (typesOf limit t))
 
 abbrev μ-loop : tie.MeasureT-loop
 μ-loop t limit at₀ at = length t - at
@@ -42,28 +42,29 @@ Read = tie.After-known-told Inv-loop μ-loop
 
 found : (c : Read)
     → varintOf (c .before .before .before .before .before .before .before .before .args .limit) (drop (c .before .before .before .before .before .before .loop .at) (now (c .before .before .before .before .before .before .before .before .args .t)))
-    ≡ vi.Value (c .before .v .given .0 .0) (c .before .v .given .0 .1 .0)
+    ≡ vi.Value (c .before .v .given .0 .0)
 found c =
     let a = c .before .before .before .before .before .before .before .before .args in
     read-at (a .limit) (now (a .t)) (c .before .before .before .before .before .before .loop .at) (c .before .before .before .read .ensures) (c .before .v .given .1)
 
 room : (c : Read)
-    → (1 ≤ c .before .v .given .0 .1 .0) × (c .before .before .before .before .before .before .loop .at + c .before .v .given .0 .1 .0 ≤ length (now (c .before .before .before .before .before .before .before .before .args .t)))
+    → (1 ≤ c .before .v .given .0 .0 .length) × (c .before .before .before .before .before .before .loop .at + c .before .v .given .0 .0 .length ≤ length (now (c .before .before .before .before .before .before .before .before .args .t)))
 room c =
     let a = c .before .before .before .before .before .before .before .before .args in
     room-at (a .limit) (now (a .t)) (c .before .before .before .before .before .before .loop .at) (search needs) (found c)
 
 add-at : tie.Need-add-at Inv-loop μ-loop
-add-at c = omega (arith, room c)
+add-at c = omega (arith, room (c .before))
 
 loop-less : tie.Need-loop-less Inv-loop μ-loop
-loop-less c = omega (arith, room c)
+loop-less c = omega (arith, room (c .before))
 
 loop-again : tie.Need-loop-again Inv-loop μ-loop
 loop-again c =
-    let a = c .before .before .before .before .before .before .before .before .args in
-    let h = c .before .before .before .before .before .before .loop in
-    (room c .1, sym (ap closed (types-at (a .limit) (now (a .t)) (h .at) (found c))) ∙ h .inv .1)
+    let k = c .before in
+    let a = k .before .before .before .before .before .before .before .before .args in
+    let h = k .before .before .before .before .before .before .loop in
+    (room k .1, sym (ap ended (types-at (a .limit) (now (a .t)) (h .at) (found k))) ∙ h .inv .1)
 
 enum-told : tie.Need-enum-told Inv-loop μ-loop
 enum-told c = search needs
@@ -73,13 +74,13 @@ returns c =
     let a = c .before .before .before .before .before .before .before .args in
     let h = c .before .before .before .before .before .loop in
     let e = read-at (a .limit) (now (a .t)) (h .at) (c .before .before .read .ensures) (c .enum-told .given .1) in
-    sym (ap closed (types-break (a .limit) (now (a .t)) (h .at) (c .before .before .before .before .loop-test .taken) e)) ∙ h .inv .1
+    sym (ap ended (types-break (a .limit) (now (a .t)) (h .at) (c .before .before .before .before .loop-test .taken) e)) ∙ h .inv .1
 
 returns-2 : tie.Need-returns-2 Inv-loop μ-loop
 returns-2 c =
     let a = c .before .before .before .args in
     let h = c .before .loop in
-    sym (ap closed (types-end (a .limit) (now (a .t)) (h .at) (c .loop-test .left))) ∙ h .inv .1
+    sym (ap ended (types-end (a .limit) (now (a .t)) (h .at) (c .loop-test .left))) ∙ h .inv .1
 
 pub types-end-spec : {M : Type 1} → statement M
 types-end-spec =

@@ -1,41 +1,30 @@
--- A cell that lies in the bytes has its columns in them.
+-- Each sum is at most the end of the payload, which lies in the bytes.
+use native.Mathlib.Omega.{arith}
 use borrow.Author.Needs.{needs}
 use Rattle.row.proofs.cursor_in.Statement.{statement}
 use Rattle.row.proofs.cursor_in.Tie as tie
 
-payload-in-requires : tie.Need-payload-in-requires
-payload-in-requires c κs = search needs
+cast-from : tie.Need-cast-from
+cast-from c = search needs
 
-values-at-requires : tie.Need-values-at-requires
-values-at-requires c κs = search needs
+add-from : tie.Need-add-from
+add-from c = search needs
 
-cast-end : tie.Need-cast-end
-cast-end c = search needs
+add-from-2 : tie.Need-add-from-2
+add-from-2 c = search needs
 
-add-end : tie.Need-add-end
-add-end c = search needs
+add-values : tie.Need-add-values
+add-values c = search needs
 
 add-t11 : tie.Need-add-t11
 add-t11 c = search needs
 
-values-end-requires : tie.Need-values-end-requires
-values-end-requires c κs = rw (c .before .before .before .before .payload-in .ensures) (c .before .before .before .before .before .before .before .pre .2)
+add-t12 : tie.Need-add-t12
+add-t12 c = let k = c .before .before .before .before .before .before in omega (arith, k .before .before .before .before .before .pre .0)
 
 returns : tie.Need-returns
-returns c =
-    let f = c .before .before .before .before .before .payload-in .ensures in
-    let v = rw f at (c .before .before .before .before .values-at .ensures) in
-    let e = rw f at (c .values-end .ensures) in
-    rw (v, e, f)
+returns c = search needs
 
 pub cursor-in-spec : {M : Type 1} → statement M
 cursor-in-spec =
-    tie.close
-    (tie.spec
-    payload-in-requires
-    values-at-requires
-    cast-end
-    add-end
-    add-t11
-    values-end-requires
-    returns)
+    tie.close (tie.spec cast-from add-from add-from-2 add-values add-t11 add-t12 returns)

@@ -1,9 +1,9 @@
--- The cell is that of the page which was opened.
-use mathlib.Core.Path.{sym, ap, _∙_}
+-- The page decides first, then the cell.
+use mathlib.Core.Path.{sym, _∙_}
 use denote.Ref.{now}
-use Rattle.page.specs.Located.{locatedOf}
-use Rattle.page.proofs.Again.{cells-again}
-use Rattle.row.specs.Row.{foundBy, foundIn, foundOf}
+use Rattle.page.specs.Open.{openOf}
+use Rattle.page.proofs.Laws.{open-answered, open-unanswered}
+use Rattle.cells.proofs.Laws.{located-open, located-unopened}
 use borrow.Author.Needs.{needs}
 use Rattle.row.proofs.found.Statement.{statement}
 use Rattle.row.proofs.found.Tie as tie
@@ -21,14 +21,14 @@ found-in-requires : tie.Need-found-in-requires
 found-in-requires c κs = search needs
 
 returns : tie.Need-returns
-unfolding foundOf locatedOf
-returns c = rw (sym (c .before .before .before .open-page .ensures) ∙ c .before .answer .given .1)
+returns c =
+    let a = c .before .before .before .before .before .args in
+    rw (located-unopened (a .page) (a .i) (now (a .db)) (open-unanswered (openOf (a .page) (now (a .db))) (sym (c .before .before .before .open-page .ensures) ∙ c .before .answer .given .1)))
 
 returns-2 : tie.Need-returns-2
-unfolding foundIn foundOf
 returns-2 c =
     let a = c .before .before .before .before .before .before .args in
-    c .found-in .ensures ∙ ap foundBy (cells-again (a .key) (a .i) (now (a .db)) _ (sym (c .before .before .before .before .open-page .ensures) ∙ c .before .before .answer2 .given .1))
+    rw (located-open (a .page) (a .i) (now (a .db)) (open-answered (openOf (a .page) (now (a .db))) (sym (c .before .before .before .before .open-page .ensures) ∙ c .before .before .answer2 .given .1))) (c .found-in .ensures)
 
 pub found-spec : {M : Type 1} → statement M
 found-spec =

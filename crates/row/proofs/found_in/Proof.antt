@@ -1,8 +1,12 @@
 -- A located cell lies in the bytes.
-use mathlib.Core.Path.{sym, _∙_}
+use mathlib.Core.Path.{sym, ap, _∙_}
 use denote.Ref.{now}
-use Rattle.row.specs.Row.{foundIn}
-use Rattle.row.proofs.Placed.{placed-again}
+use Rattle.cells.specs.declared.Located as dl
+use Rattle.cells.specs.Located.{locatedIn}
+use Rattle.cells.proofs.Laws.{Kept, kept, located-unanswered}
+use Rattle.row.specs.declared.FoundAnswer.the-variants as fo
+use Rattle.row.specs.Found.{cursorFor}
+use Rattle.row.proofs.Placed.{placed-in, lying}
 use borrow.Author.Needs.{needs}
 use Rattle.row.proofs.found_in.Statement.{statement}
 use Rattle.row.proofs.found_in.Tie as tie
@@ -10,30 +14,42 @@ use Rattle.row.proofs.found_in.Tie as tie
 cell-in-requires : tie.Need-cell-in-requires
 cell-in-requires c κs = search needs
 
-enum-known-located : tie.Need-enum-known-located
-enum-known-located c = search needs
+enum-known-answer : tie.Need-enum-known-answer
+enum-known-answer c = search needs
 
-enum-known-located-2 : tie.Need-enum-known-located-2
-enum-known-located-2 c = search needs
+enum-known-answer-2 : tie.Need-enum-known-answer-2
+enum-known-answer-2 c = search needs
+
+-- the cell that is located
+here : (c : tie.After-known-told2)
+    → let a = c .before .before .before .before .before .args in Kept (locatedIn (a .opened) (a .i) (now (a .db))) (c .before .answer2 .given .0 .0)
+here c =
+    let k = c .before .before .before in
+    let a = k .before .before .args in
+    kept (locatedIn (a .opened) (a .i) (now (a .db))) (sym (k .cell-in .ensures) ∙ c .before .answer2 .given .1)
 
 cursor-in-requires : tie.Need-cursor-in-requires
-cursor-in-requires c κs = placed-again (c .before .before .before .before .before .args .opened) (c .before .before .before .before .before .args .i) (now (c .before .before .before .before .before .args .db)) (sym (c .before .before .before .cell-in .ensures) ∙ c .before .located2 .given .1) .lying
+cursor-in-requires c κs =
+    let k = c .before .before .before in
+    rw (← here k .same) (lying (here k .l) _ (placed-in _ _ _ (here k .is)))
 
 returns : tie.Need-returns
-unfolding foundIn
-returns c = rw (sym (c .before .before .before .cell-in .ensures) ∙ c .before .located .given .1)
+returns c =
+    let a = c .before .before .before .before .before .args in
+    rw (located-unanswered (locatedIn (a .opened) (a .i) (now (a .db))) (sym (c .before .before .before .cell-in .ensures) ∙ c .before .answer .given .1))
 
 returns-2 : tie.Need-returns-2
-unfolding foundIn
-returns-2 c = rw (sym (c .before .before .before .before .cell-in .ensures) ∙ c .before .before .located2 .given .1, c .cursor-in .ensures)
+returns-2 c =
+    let t = here (c .before .before .before .before) in
+    rw (t .is, c .cursor-in .ensures) (sym (ap (λ (x : dl.Located). fo.Shown (record { page = x .opened .page; cell = x .cell; cursor = cursorFor x })) (t .same)))
 
 pub found-in-spec : {M : Type 1} → statement M
 found-in-spec =
     tie.close
     (tie.spec
     cell-in-requires
-    enum-known-located
-    enum-known-located-2
+    enum-known-answer
+    enum-known-answer-2
     cursor-in-requires
     returns
     returns-2)

@@ -1,8 +1,12 @@
--- The row number is the located cell's, as 64 bits of two's complement.
+-- The cell decides.
 use mathlib.Core.Path.{sym, ap, _∙_}
+use denote.Ref.{now}
 use mir.Syntax.{w64}
 use mir.Facts.{toZ-ofZ}
-use Rattle.row.specs.declared.RowAnswer.the-variants as ro
+use Rattle.cells.specs.declared.Located as dl
+use Rattle.cells.specs.Located.{rowNumber, locatedOf}
+use Rattle.cells.proofs.Laws.{kept, located-unanswered}
+use Rattle.row.specs.declared.RowNumberAnswer.the-variants as ro
 use Rattle.row.specs.Row.{rowOf}
 use borrow.Author.Needs.{needs}
 use Rattle.row.proofs.row_number.Statement.{statement}
@@ -11,32 +15,37 @@ use Rattle.row.proofs.row_number.Tie as tie
 cell-at-requires : tie.Need-cell-at-requires
 cell-at-requires c κs = search needs
 
-enum-known-located : tie.Need-enum-known-located
-enum-known-located c = search needs
+enum-known-answer : tie.Need-enum-known-answer
+enum-known-answer c = search needs
 
-enum-known-located-2 : tie.Need-enum-known-located-2
-enum-known-located-2 c = search needs
+enum-known-answer-2 : tie.Need-enum-known-answer-2
+enum-known-answer-2 c = search needs
 
-signed-of-requires : tie.Need-signed-of-requires
-signed-of-requires c κs = search needs
+row-of-requires : tie.Need-row-of-requires
+row-of-requires c κs = search needs
 
 returns : tie.Need-returns
 unfolding rowOf
-returns c = rw (sym (c .before .before .before .cell-at .ensures) ∙ c .before .located .given .1)
+returns c =
+    let a = c .before .before .before .before .before .args in
+    rw (located-unanswered (locatedOf (a .page) (a .i) (now (a .db))) (sym (c .before .before .before .cell-at .ensures) ∙ c .before .answer .given .1))
 
 returns-2 : tie.Need-returns-2
 unfolding rowOf
 returns-2 c =
-    rw (sym (c .before .before .before .before .before .cell-at .ensures) ∙ c .before .before .before .located2 .given .1)
-    (ap ro.Shown (toZ-ofZ {w = w64} (record { sfits = c .signed-of .ok }) ∙ c .signed-of .ensures))
+    let k = c .before .before .before .before in
+    let a = k .before .before .args in
+    let t = kept (locatedOf (a .page) (a .i) (now (a .db))) (sym (k .cell-at .ensures) ∙ c .before .before .answer2 .given .1) in
+    let n = toZ-ofZ {w = w64} (record { sfits = c .row-of .ok }) ∙ c .row-of .ensures in
+    rw (t .is) (ap ro.Shown n ∙ sym (ap (λ (x : dl.Located). ro.Shown (rowNumber (x .cell .row .value))) (t .same)))
 
 pub row-number-spec : {M : Type 1} → statement M
 row-number-spec =
     tie.close
     (tie.spec
     cell-at-requires
-    enum-known-located
-    enum-known-located-2
-    signed-of-requires
+    enum-known-answer
+    enum-known-answer-2
+    row-of-requires
     returns
     returns-2)

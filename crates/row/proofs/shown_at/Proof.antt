@@ -1,4 +1,4 @@
--- A column that is not there is refused.
+-- A column that is missing is refused on its page.
 use borrow.Author.Needs.{needs}
 use Rattle.row.proofs.shown_at.Statement.{statement}
 use Rattle.row.proofs.shown_at.Tie as tie

@@ -1,14 +1,18 @@
 -- A header size of one byte, and values that fit.
-use mathlib.Core.Path.{subst, _∙_}
+use Prim.Native.Nat.{ℕ, _-_}
+use mathlib.Core.Path.{_≡_, subst}
+use mathlib.Core.List.{List}
 use native.Mathlib.Omega.{arith}
 use lib.ListN.{length, getD, take, drop}
 use denote.Ref.{now}
-use Prim.Native.Nat.{_-_}
 use Rattle.reading.specs.Reading.{limit}
-use Rattle.record.specs.Types.{typesOf}
-use Rattle.record.proofs.Stages.{judged-old, judged-file}
-use Rattle.usual.specs.Short.{Lying}
-use Rattle.usual.proofs.Records.{head}
+use Rattle.record.specs.declared.Laid.the-variants.{Ends}
+use Rattle.record.specs.declared.Fit.the-variants.{Fits}
+use Rattle.record.specs.Types.{Types, typesOf}
+use Rattle.record.specs.Record.{judged}
+use Rattle.record.proofs.Stages.{judged-old}
+use Rattle.usual.specs.Short.{Lying, Head}
+use Rattle.usual.proofs.Records.{filled, head}
 use borrow.Author.Needs.{needs}
 use Rattle.usual.proofs.header_of.Statement.{statement}
 use Rattle.usual.proofs.header_of.Tie as tie
@@ -61,24 +65,36 @@ enum-told-2 c = search needs
 enum-told-3 : tie.Need-enum-told-3
 enum-told-3 c = search needs
 
+-- where the layout was seen
+module _ (c : tie.After-known-told) where
+  abbrev k : tie.Start
+  k = c .before .before .before .before .before .before .before .before .before .before .before
+
+  abbrev q : List ℕ
+  q = now (k .args .q)
+
+  abbrev ts : Types
+  ts = typesOf (limit (k .args .reading)) (take (getD q 0 0 - 1) (drop 1 q))
+
+  abbrev n : ℕ
+  n = c .before .layout .given .0 .0
+
+  abbrev left : ℕ
+  left = c .before .layout .given .0 .1 .0
+
+  seen : judged (k .args .reading) ts (Ends n left) ≡ Fits n left → Head (k .args .guarded) (k .args .reading) q (getD q 0 0) n
+  seen =
+      head (k .args .guarded) (k .args .reading) q n left (omega (arith, c .before .before .before .before .before .before .before .before .before .if1 .left)) (c .before .before .before .before .before .before .before .if2 .left) (omega (arith, c .before .before .before .before .before .before .if3 .left)) (c .before .before .before .before .before .if4 .left)
+      (subst (Lying (k .args .guarded) (length q - getD q 0 0) ts) (c .before .layout .given .1) (c .before .before .before .layout-of .ensures))
+
 returns-6 : tie.Need-returns-6
-returns-6 c = let a = c .before .before .before .before .before .before .before .before .before .before .before .before .before .before .args in
-    let q = now (a .q) in
-    let l = c .before .before .before .before .layout .given in
-    let lying = subst (Lying (a .guarded) (length q - getD q 0 0) (typesOf (limit (a .reading)) (take (getD q 0 0 - 1) (drop 1 q)))) (l .1) (c .before .before .before .before .before .before .layout-of .ensures) in
-    head (a .guarded) (a .reading) q (l .0 .0) (l .0 .1 .0) (omega (arith, c .before .before .before .before .before .before .before .before .before .before .before .before .if1 .left)) (c .before .before .before .before .before .before .before .before .before .before .if2 .left) (omega (arith, c .before .before .before .before .before .before .before .before .before .if3 .left)) (c .before .before .before .before .before .before .before .before .if4 .left) lying
-    (judged-file (c .before .enum-told3 .given .1) _ _ ∙ rw (c .if5 .taken))
+returns-6 c = let b = c .before .before .before in seen b (filled (c .before .enum-told3 .given .1) (ts b) (n b) (c .if5 .taken))
 
 returns-7 : tie.Need-returns-7
 returns-7 c = search needs
 
 returns-8 : tie.Need-returns-8
-returns-8 c = let a = c .before .before .before .before .before .before .before .before .before .before .before .before .before .args in
-    let q = now (a .q) in
-    let l = c .before .before .before .layout .given in
-    let lying = subst (Lying (a .guarded) (length q - getD q 0 0) (typesOf (limit (a .reading)) (take (getD q 0 0 - 1) (drop 1 q)))) (l .1) (c .before .before .before .before .before .layout-of .ensures) in
-    head (a .guarded) (a .reading) q (l .0 .0) (l .0 .1 .0) (omega (arith, c .before .before .before .before .before .before .before .before .before .before .before .if1 .left)) (c .before .before .before .before .before .before .before .before .before .if2 .left) (omega (arith, c .before .before .before .before .before .before .before .before .if3 .left)) (c .before .before .before .before .before .before .before .if4 .left) lying
-    (judged-old (c .enum-told2 .given .1) _ _)
+returns-8 c = seen (c .before .before) (judged-old (c .enum-told2 .given .1) _ _)
 
 pub header-of-spec : {M : Type 1} → statement M
 header-of-spec =

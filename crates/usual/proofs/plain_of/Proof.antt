@@ -15,7 +15,7 @@ returns : tie.Need-returns
 returns c = sym (ap rowBy (c .before .answer .given .1))
 
 returns-2 : tie.Need-returns-2
-returns-2 c = sym (ap rowBy (c .before .before .answer2 .given .1))
+returns-2 c = sym (ap rowBy (c .before .before .before .before .answer2 .given .1))
 
 pub plain-of-spec : {M : Type 1} → statement M
 plain-of-spec = tie.close (tie.spec enum-known-answer enum-known-answer-2 returns returns-2)

@@ -1,11 +1,13 @@
 -- The numbers, the payload behind them, and the record in it.
-use Prim.Native.Nat.{_+_, _-_, _≤_}
+use Prim.Native.Nat.{ℕ, _+_, _-_, _≤_}
 use mathlib.Core.Path.{_≡_, sym, subst, _∙_}
+use mathlib.Core.List.{List}
 use native.Mathlib.Nat.{sub-zero}
 use native.Mathlib.Omega.{arith}
 use lib.ListN.{length, take, drop}
 use denote.Ref.{now}
 use Rattle.laws.proofs.Parts.{tail}
+use Rattle.varint.specs.declared.Number.{Number}
 use Rattle.varint.specs.declared.Varint.the-variants as vi
 use Rattle.varint.specs.Varint.{varintOf}
 use Rattle.varint.proofs.Laws.{length-bounds}
@@ -19,25 +21,40 @@ use Rattle.usual.proofs.row_of.Tie as tie
 
 -- the payload size
 module _ (c : tie.After-known-told) where
-  sized : varintOf 5 (now (c .before .before .before .before .before .args .s)) ≡ vi.Value (c .before .size .given .0 .0) (c .before .size .given .0 .1 .0)
-  sized = sym (c .before .before .before .read .ensures) ∙ c .before .size .given .1
+  abbrev s : List ℕ
+  s = now (c .before .before .before .before .before .args .s)
 
-  after : c .before .size .given .0 .1 .0 ≤ length (now (c .before .before .before .before .before .args .s))
-  after = length-bounds _ 5 sized .2
+  abbrev size : Number
+  size = c .before .first .given .0 .0
+
+  sized : varintOf 5 s ≡ vi.Value size
+  sized = sym (c .before .before .before .read .ensures) ∙ c .before .first .given .1
+
+  after : size .length ≤ length s
+  after = length-bounds s 5 sized .2
 
 -- and the row number
-module _ (c : tie.After-known-told2) where
-  rowed : varintOf 5 (drop (c .before .before .before .before .before .before .size .given .0 .1 .0) (now (c .before .before .before .before .before .before .before .before .before .before .args .s))) ≡ vi.Value (c .before .row .given .0 .0) (c .before .row .given .0 .1 .0)
-  rowed = read-at 5 (now (c .before .before .before .before .before .before .before .before .before .before .args .s)) (c .before .before .before .before .before .before .size .given .0 .1 .0) (c .before .before .before .read2 .ensures) (c .before .row .given .1)
+module _ (c : tie.After-struct-known) where
+  abbrev k : tie.After-known-told
+  k = c .before .before .before .before .before .before
 
-  behind : c .before .before .before .before .before .before .size .given .0 .1 .0 + c .before .row .given .0 .1 .0 ≤ length (now (c .before .before .before .before .before .before .before .before .before .before .args .s))
-  behind = room-at 5 (now (c .before .before .before .before .before .before .before .before .before .before .args .s)) (c .before .before .before .before .before .before .size .given .0 .1 .0) (after (c .before .before .before .before .before)) rowed .1
+  abbrev key : Number
+  key = c .before .before .second .given .0 .0
+
+  abbrev from : ℕ
+  from = size k .length + key .length
+
+  keyed : varintOf 5 (drop (size k .length) (s k)) ≡ vi.Value key
+  keyed = read-at 5 (s k) (size k .length) (c .before .before .before .before .read2 .ensures) (c .before .before .second .given .1)
+
+  behind : from ≤ length (s k)
+  behind = room-at 5 (s k) (size k .length) (after k) keyed .1
 
 read-requires : tie.Need-read-requires
 read-requires c κs = search needs
 
-enum-known-size : tie.Need-enum-known-size
-enum-known-size c = search needs
+enum-known-first : tie.Need-enum-known-first
+enum-known-first c = search needs
 
 enum-told : tie.Need-enum-told
 enum-told c = search needs
@@ -57,8 +74,8 @@ part-read-end c = search needs
 read-requires-2 : tie.Need-read-requires-2
 read-requires-2 c κs = search needs
 
-enum-known-row : tie.Need-enum-known-row
-enum-known-row c = search needs
+enum-known-second : tie.Need-enum-known-second
+enum-known-second c = search needs
 
 enum-told-2 : tie.Need-enum-told-2
 enum-told-2 c = search needs
@@ -100,10 +117,9 @@ part-header-of-start : tie.Need-part-header-of-start
 part-header-of-start c = search needs
 
 part-header-of-end : tie.Need-part-header-of-end
-part-header-of-end c = let a = c .before .before .before .before .before .before .before .before .before .before .before .before .before .before .before .before .args in
-    let s = now (a .s) in
-    let from = c .before .before .before .before .before .before .before .before .before .before .before .before .size .given .0 .1 .0 + c .before .before .before .before .before .before .before .row .given .0 .1 .0 in
-    payload-within (a .reading) (c .before .before .before .before .most-whole .result) (c .before .before .before .before .before .before .before .before .before .before .before .before .size .given .0 .0) (take (length s - from) (drop from s)) (sym (c .before .before .before .payload-of .ensures) ∙ c .before .payload .given .1)
+part-header-of-end c =
+    let b = c .before .before .before .before .before .before in
+    payload-within (k b .before .before .before .before .before .args .reading) (c .before .before .before .before .most-whole .result) (size (k b) .value) (take (length (s (k b)) - from b) (drop (from b) (s (k b)))) (sym (c .before .before .before .payload-of .ensures) ∙ c .before .payload .given .1)
 
 header-of-requires : tie.Need-header-of-requires
 header-of-requires c κs = search needs
@@ -118,29 +134,26 @@ returns-4 : tie.Need-returns-4
 returns-4 c = search needs
 
 returns-5 : tie.Need-returns-5
-returns-5 c = let a = c .before .before .before .before .before .before .before .before .before .before .before .before .before .before .before .before .before .before .before .before .before .args in
-    let s = now (a .s) in
-    let size = c .before .before .before .before .before .before .before .before .before .before .before .before .before .before .before .before .before .size .given in
-    let row = c .before .before .before .before .before .before .before .before .before .before .before .before .row .given in
-    let n = c .before .before .before .before .before .before .payload .given in
-    let h = c .before .header .given in
-    let held = subst (Headed (a .guarded) (a .reading) _) (h .1) (c .before .before .before .header-of .ensures) in
-    let pay = rw (c .before .before .before .before .before .before .before .before .before .most-whole .ensures, tail s (size .0 .1 .0 + row .0 .1 .0)) at (sym (c .before .before .before .before .before .before .before .before .payload-of .ensures) ∙ n .1) in
-    start (a .guarded) (a .reading) (a .usable) s (sized (c .before .before .before .before .before .before .before .before .before .before .before .before .before .before .before .before)) (rowed (c .before .before .before .before .before .before .before .before .before .before .before)) pay (rw (sub-zero, tail s (size .0 .1 .0 + row .0 .1 .0)) at held)
+returns-5 c =
+    let b = c .before .before .before .before .before .before .before .before .before .before .before in
+    let a = k b .before .before .before .before .before .args in
+    let held = subst (Headed (a .guarded) (a .reading) _) (c .before .header .given .1) (c .before .before .before .header-of .ensures) in
+    let pay = rw (c .before .before .before .before .before .before .before .before .before .most-whole .ensures, tail (s (k b)) (from b)) at (sym (c .before .before .before .before .before .before .before .before .payload-of .ensures) ∙ c .before .before .before .before .before .before .payload .given .1) in
+    start (a .guarded) (a .reading) (a .usable) (s (k b)) (sized (k b)) (keyed b) pay (rw (sub-zero, tail (s (k b)) (from b)) at held)
 
 pub row-of-spec : {M : Type 1} → statement M
 row-of-spec =
     tie.close
     (tie.spec
     read-requires
-    enum-known-size
+    enum-known-first
     enum-told
     returns
     sub-read
     part-read-start
     part-read-end
     read-requires-2
-    enum-known-row
+    enum-known-second
     enum-told-2
     returns-2
     add-from

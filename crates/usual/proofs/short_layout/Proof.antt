@@ -58,8 +58,8 @@ loop-again : tie.Need-loop-again Inv-loop μ-loop
 loop-again c = let a = c .before .before .before .before .before .before .before .before .before .before .before .args in
     let l = c .before .before .before .before .before .before .before .loop in
     let w = c .before .before .width .given in
-    let kind = getD (now (a .t)) (l .at) 0 in
-    let u = subst (Wide kind (c .before .before .before .before .before .before .before .before .before .barred-of .result) (c .before .before .before .before .before .before .before .before .least-of .result)) (w .1) (c .before .before .before .before .width-of .ensures) in (
+    let serial = getD (now (a .t)) (l .at) 0 in
+    let u = subst (Wide serial (c .before .before .before .before .before .before .before .before .before .barred-of .result) (c .before .before .before .before .before .before .before .before .least-of .result)) (w .1) (c .before .before .before .before .width-of .ensures) in (
       omega arith,
       gone-on (a .guarded) (a .room) (now (a .t)) (l .at) (l .left) (w .0 .0) (c .before .before .before .before .before .before .loop-test .taken)
           (rw (c .before .before .before .before .before .before .before .before .before .barred-of .ensures, c .before .before .before .before .before .before .before .before .least-of .ensures) at u) (c .if1 .left) (l .inv .1),

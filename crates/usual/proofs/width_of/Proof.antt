@@ -17,10 +17,10 @@ short-width-requires c κs = search needs
 
 returns-2 : tie.Need-returns-2
 returns-2 c = let a = c .before .before .before .args in
-    let h : a .kind < 10 = c .before .before .if1 .taken in
+    let h : a .serial < 10 = c .before .before .if1 .taken in
     record {
       byte = omega arith;
-      has = width-small (a .kind) h ∙ ap wi.Bytes (sym (c .short-width .ensures));
+      has = width-small (a .serial) h ∙ ap wi.Bytes (sym (c .short-width .ensures));
       other = c .before .if2 .left;
       sort = inl h;
     }
@@ -36,12 +36,12 @@ sub-t7 c = search needs
 
 returns-5 : tie.Need-returns-5
 returns-5 c = let s = c .before .before .before in
-    let kind = s .args .kind in
-    let h : s .args .least ≤ kind = c .before .if3 .left in
-    let l : 12 ≤ kind = omega (arith, s .pre .1) in
+    let serial = s .args .serial in
+    let h : s .args .least ≤ serial = c .before .if3 .left in
+    let l : 12 ≤ serial = omega (arith, s .pre .1) in
     record {
       byte = c .if4 .left;
-      has = width-long kind l ∙ ap wi.Bytes (sym (length-either kind l));
+      has = width-long serial l ∙ ap wi.Bytes (sym (length-either serial l));
       other = λ e. absurd (omega (arith, s .pre .0));
       sort = inr h;
     }

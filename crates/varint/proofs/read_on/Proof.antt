@@ -44,14 +44,14 @@ add-t14 c =
     let q = c .before in
     omega (arith, small q, q .shared-slice-known .given (q .before .before .before .loop .i))
 
-mul-t15 : tie.Need-mul-t15 Inv-loop μ-loop
-mul-t15 c = omega (arith, small (c .before .before))
-
-add-t16 : tie.Need-add-t16 Inv-loop μ-loop
-add-t16 c = omega (arith, small (c .before .before))
+mul-t16 : tie.Need-mul-t16 Inv-loop μ-loop
+mul-t16 c = omega (arith, small (c .before .before))
 
 add-t17 : tie.Need-add-t17 Inv-loop μ-loop
-add-t17 c = search needs
+add-t17 c = omega (arith, small (c .before .before))
+
+add-t18 : tie.Need-add-t18 Inv-loop μ-loop
+add-t18 c = search needs
 
 mul-value : tie.Need-mul-value Inv-loop μ-loop
 mul-value c = omega (arith, small (c .before .before))
@@ -109,9 +109,9 @@ read-on-spec =
     cast-b
     mul-t13
     add-t14
-    mul-t15
-    add-t16
+    mul-t16
     add-t17
+    add-t18
     mul-value
     add-value
     add-i

@@ -17,10 +17,10 @@ use Rattle.exports.proofs.whole.fill.Statement.{statement}
 use Rattle.exports.proofs.whole.fill.Tie as tie
 
 abbrev Inv-loop : tie.InvT-loop
-Inv-loop db columns table₀ reading shape places most here₀ n₀ table here n = Held places here₀ db table₀ table here n × Left reading columns db here n
+Inv-loop db columns table₀ reading manner places most here₀ n₀ table here n = Held places here₀ db table₀ table here n × Left reading columns db here n
 
 abbrev μ-loop : tie.MeasureT-loop
-μ-loop db columns table₀ reading shape places most here₀ n₀ table here n = most - n
+μ-loop db columns table₀ reading manner places most here₀ n₀ table here n = most - n
 
 -- a turn is within both numbers
 both : (c : tie.In-loop Inv-loop μ-loop)
@@ -38,8 +38,8 @@ coming c = let l = c .before .loop in next (now (c .before .before .before .befo
 place : (c : tie.In-loop Inv-loop μ-loop) → 5 * c .before .loop .n + 5 ≤ length (c .before .loop .table)
 place c = let l = c .before .loop in omega (arith, l .inv .0 .0, both c .1, c .before .before .before .places-of .ensures .0)
 
-shape-of-requires : tie.Need-shape-of-requires Inv-loop μ-loop
-shape-of-requires c κs = search needs
+manner-of-requires : tie.Need-manner-of-requires Inv-loop μ-loop
+manner-of-requires c κs = search needs
 
 places-of-requires : tie.Need-places-of-requires Inv-loop μ-loop
 places-of-requires c κs = search needs
@@ -49,13 +49,13 @@ loop-holds c =
     let a = c .before .before .before .before .args in
     (filling.at-first _ _ _ _, at-first (a .first) (a .columns) (now (a .db)) (c .before .before .before .before .pre))
 
-shared-slice-read-kind : tie.Need-shared-slice-read-kind Inv-loop μ-loop
-shared-slice-read-kind c =
+shared-slice-read-serial : tie.Need-shared-slice-read-serial Inv-loop μ-loop
+shared-slice-read-serial c =
     let w : c .before .before .loop .here .at < length (now (c .before .before .before .before .before .before .before .args .db)) = type-within (c .before .before .loop .here) (now (c .before .before .before .before .before .before .before .args .db)) (coming (c .before) .read) .1 in
     search needs
 
-cast-kind : tie.Need-cast-kind Inv-loop μ-loop
-cast-kind c = omega (arith, c .shared-slice-known2 .given (c .before .before .loop .here .at))
+cast-serial : tie.Need-cast-serial Inv-loop μ-loop
+cast-serial c = omega (arith, c .shared-slice-known2 .given (c .before .before .loop .here .at))
 
 sub-put-value : tie.Need-sub-put-value Inv-loop μ-loop
 sub-put-value c = let i = c .before .before .before .loop .inv .1 in omega (arith, i .ordered, i .within)
@@ -121,17 +121,17 @@ loop-again c =
     let a = c .before .before .before .before .before .before .before .before .args in
     let l = c .before .before .before .loop in
     let p = c .before .before .before .before .before .places-of in
-    let s = c .before .before .before .before .before .before .shape-of in
+    let s = c .before .before .before .before .before .before .manner-of in
     let db = now (a .db) in
     let x = coming (c .before .before) in
     let on = goes-on (p .result) (a .first) db (now (a .table)) (omega (arith, p .ensures .0)) (l .table) (l .here) (l .n) (l .inv .0) x (both (c .before .before) .1) in
     elim (c .if2 .came) [
       | inl w ↦
-          let kind = getD db (l .here .at) 0 in
+          let serial = getD db (l .here .at) 0 in
           let part = take (length db - l .here .value) (drop (l .here .value) db) in
           let b = w .0 .taken in
-          on (valueBy (s .result) kind (l .here .value) part)
-          (ap (λ shape. valueBy shape kind (l .here .value) part) (s .ensures) ∙ byte-value db (l .here) (l .n) (l .inv .1) x b)
+          on (valueBy (s .result) serial (l .here .value) part)
+          (ap (λ manner. valueBy manner serial (l .here .value) part) (s .ensures) ∙ byte-value db (l .here) (l .n) (l .inv .1) x b)
           (w .6 ∙ w .3 .ensures .1)
           (w .7 ∙ byte-behind db (l .here) (l .n) (l .inv .1) x b (w .3 .result) (w .3 .ensures .0))
       | inr w ↦
@@ -162,11 +162,11 @@ fill-spec =
     (tie.spec
     Inv-loop
     μ-loop
-    shape-of-requires
+    manner-of-requires
     places-of-requires
     loop-holds
-    shared-slice-read-kind
-    cast-kind
+    shared-slice-read-serial
+    cast-serial
     sub-put-value
     part-put-value-start
     part-put-value-end

@@ -4,8 +4,8 @@ use lib.Seq.{sets}
 use mir.Syntax.{w64}
 use mir.Val.{toZ, ofZ}
 use denote.Ref.{now}
-use Rattle.exports.specs.Turns.{integerOf}
-use Rattle.exports.specs.Batch.{wordsOf}
+use Rattle.exports.specs.Shown.{integerOf}
+use Rattle.exports.specs.Run.{wordsOf}
 use borrow.Author.Needs.{needs}
 use Rattle.exports.proofs.whole.put_integer.Statement.{statement}
 use Rattle.exports.proofs.whole.put_integer.Tie as tie

@@ -6,7 +6,7 @@ use denote.Ref.{now}
 use lib.Seq.{sets}
 use borrow.Author.Tests.{lt-ltb, le-ltb, eq-eqb, ne-eqb}
 use Rattle.serial.proofs.Laws.{length-either}
-use Rattle.exports.specs.Batch.{wordsOf}
+use Rattle.exports.specs.Run.{wordsOf}
 use Rattle.exports.specs.Whole.{longFrom}
 use borrow.Author.Needs.{needs}
 use Rattle.exports.proofs.whole.put_long.Statement.{statement}
@@ -17,7 +17,7 @@ sub-len c = search needs
 
 add-end : tie.Need-add-end
 add-end c = let a = c .args in
-    omega (arith, length-either (a .kind) (c .pre .1))
+    omega (arith, length-either (a .serial) (c .pre .1))
 
 empty-value-requires : tie.Need-empty-value-requires
 empty-value-requires c κs = search needs
@@ -30,8 +30,8 @@ same-length c = search needs
 
 returns : tie.Need-returns
 returns c = let a = c .before .before .before .before .before .args in
-    let l = length-either (a .kind) (c .before .before .before .before .before .pre .1) in
-    let e : c .before .before .empty-value .result ≡ longFrom (a .least) (a .kind) (a .at) = c .before .before .empty-value .ensures ∙ rw (lt-ltb (a .kind) (a .least) (c .before .before .before .before .if1 .taken)) in (
+    let l = length-either (a .serial) (c .before .before .before .before .before .pre .1) in
+    let e : c .before .before .empty-value .result ≡ longFrom (a .least) (a .serial) (a .at) = c .before .before .empty-value .ensures ∙ rw (lt-ltb (a .serial) (a .least) (c .before .before .before .before .if1 .taken)) in (
       c .before .put-at .ensures .0 ∙ ap (λ n. a .at + n) l,
       c .before .put-at .ensures .1 ∙ ap (λ v. sets (now (a .table)) (a .place) (wordsOf v)) e,
     )
@@ -47,8 +47,8 @@ same-length-2 c = search needs
 
 returns-2 : tie.Need-returns-2
 returns-2 c = let a = c .before .before .before .before .before .before .args in
-    let l = length-either (a .kind) (c .before .before .before .before .before .before .pre .1) in
-    let e : c .before .before .long-of .result ≡ longFrom (a .least) (a .kind) (a .at) = c .before .before .long-of .ensures ∙ rw (l, le-ltb (a .kind) (a .least) (c .before .before .before .before .before .if1 .left), eq-eqb (a .kind % 2) 0 (c .before .before .before .before .if2 .taken)) in (
+    let l = length-either (a .serial) (c .before .before .before .before .before .before .pre .1) in
+    let e : c .before .before .long-of .result ≡ longFrom (a .least) (a .serial) (a .at) = c .before .before .long-of .ensures ∙ rw (l, le-ltb (a .serial) (a .least) (c .before .before .before .before .before .if1 .left), eq-eqb (a .serial % 2) 0 (c .before .before .before .before .if2 .taken)) in (
       c .before .put-at2 .ensures .0 ∙ ap (λ n. a .at + n) l,
       c .before .put-at2 .ensures .1 ∙ ap (λ v. sets (now (a .table)) (a .place) (wordsOf v)) e,
     )
@@ -64,8 +64,8 @@ same-length-3 c = search needs
 
 returns-3 : tie.Need-returns-3
 returns-3 c = let a = c .before .before .before .before .before .before .args in
-    let l = length-either (a .kind) (c .before .before .before .before .before .before .pre .1) in
-    let e : c .before .before .long-of2 .result ≡ longFrom (a .least) (a .kind) (a .at) = c .before .before .long-of2 .ensures ∙ rw (l, le-ltb (a .kind) (a .least) (c .before .before .before .before .before .if1 .left), ne-eqb (a .kind % 2) 0 (c .before .before .before .before .if2 .left)) in (
+    let l = length-either (a .serial) (c .before .before .before .before .before .before .pre .1) in
+    let e : c .before .before .long-of2 .result ≡ longFrom (a .least) (a .serial) (a .at) = c .before .before .long-of2 .ensures ∙ rw (l, le-ltb (a .serial) (a .least) (c .before .before .before .before .before .if1 .left), ne-eqb (a .serial % 2) 0 (c .before .before .before .before .if2 .left)) in (
       c .before .put-at3 .ensures .0 ∙ ap (λ n. a .at + n) l,
       c .before .put-at3 .ensures .1 ∙ ap (λ v. sets (now (a .table)) (a .place) (wordsOf v)) e,
     )

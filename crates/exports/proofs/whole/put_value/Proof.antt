@@ -10,10 +10,10 @@ use denote.Ref.{now}
 use Rattle.laws.proofs.Casts.{widen-fits, widen-same}
 use Rattle.serial.specs.Serial.{widthOf}
 use Rattle.serial.proofs.Laws.{ten, width-past}
-use Rattle.exports.specs.Turns.{integerOf, realOf}
-use Rattle.exports.specs.Batch.{wordsOf}
+use Rattle.exports.specs.Shown.{integerOf, realOf}
+use Rattle.exports.specs.Run.{wordsOf}
 use Rattle.exports.specs.Whole.{longFrom, valueBy}
-use Rattle.exports.proofs.Shapes.{stored-as, by-long}
+use Rattle.exports.proofs.Manners.{stored-as, by-long}
 use borrow.Author.Needs.{needs}
 use Rattle.exports.proofs.whole.put_value.Statement.{statement}
 use Rattle.exports.proofs.whole.put_value.Tie as tie
@@ -118,7 +118,7 @@ put-integer-requires-8 c κs = search needs
 put-long-requires : tie.Need-put-long-requires
 put-long-requires c κs = let a = c .before .before .before .args in
     let p = c .before .before .before .pre in
-    let l = width-past (a .kind) (ten (c .before .match .rest)) (p .1) in
+    let l = width-past (a .serial) (ten (c .before .match .rest)) (p .1) in
     (p .0, l .0, rw (l .1) at (p .2))
 
 same-length : tie.Need-same-length
@@ -127,7 +127,7 @@ same-length c = search needs
 returns : tie.Need-returns
 unfolding valueBy widthOf
 returns c = let a = c .before .before .before .before .before .before .args in
-    stored-as (a .shape) (a .kind) (a .at) (now (a .part)) (now (a .table)) (a .place) (c .before .before .before .before .match .keys1) (c .before .put-at .ensures .0 ∙ sym (add-zero (a .at)))
+    stored-as (a .manner) (a .serial) (a .at) (now (a .part)) (now (a .table)) (a .place) (c .before .before .before .before .match .keys1) (c .before .put-at .ensures .0 ∙ sym (add-zero (a .at)))
     (c .before .before .empty-value .ensures)
     (c .before .put-at .ensures .1)
 
@@ -138,8 +138,8 @@ returns-2 : tie.Need-returns-2
 unfolding valueBy widthOf
 returns-2 c = let a = c .before .before .before .before .before .before .args in
     let b = c .before .before .be-i8 in
-    stored-as (a .shape) (a .kind) (a .at) (now (a .part)) (now (a .table)) (a .place) (c .before .before .before .before .match .keys2) (c .before .put-integer .ensures .0)
-    (ap (integerOf (a .shape .i8)) (widen-same w8 (b .result) (b .ok) tt ∙ b .ensures))
+    stored-as (a .manner) (a .serial) (a .at) (now (a .part)) (now (a .table)) (a .place) (c .before .before .before .before .match .keys2) (c .before .put-integer .ensures .0)
+    (ap (integerOf (a .manner .i8)) (widen-same w8 (b .result) (b .ok) tt ∙ b .ensures))
     (c .before .put-integer .ensures .1)
 
 same-length-3 : tie.Need-same-length-3
@@ -149,8 +149,8 @@ returns-3 : tie.Need-returns-3
 unfolding valueBy widthOf
 returns-3 c = let a = c .before .before .before .before .before .before .args in
     let b = c .before .before .be-i16 in
-    stored-as (a .shape) (a .kind) (a .at) (now (a .part)) (now (a .table)) (a .place) (c .before .before .before .before .match .keys3) (c .before .put-integer2 .ensures .0)
-    (ap (integerOf (a .shape .i16)) (widen-same w16 (b .result) (b .ok) tt ∙ b .ensures))
+    stored-as (a .manner) (a .serial) (a .at) (now (a .part)) (now (a .table)) (a .place) (c .before .before .before .before .match .keys3) (c .before .put-integer2 .ensures .0)
+    (ap (integerOf (a .manner .i16)) (widen-same w16 (b .result) (b .ok) tt ∙ b .ensures))
     (c .before .put-integer2 .ensures .1)
 
 same-length-4 : tie.Need-same-length-4
@@ -160,8 +160,8 @@ returns-4 : tie.Need-returns-4
 unfolding valueBy widthOf
 returns-4 c = let a = c .before .before .before .before .before .before .args in
     let b = c .before .before .be-i24 in
-    stored-as (a .shape) (a .kind) (a .at) (now (a .part)) (now (a .table)) (a .place) (c .before .before .before .before .match .keys4) (c .before .put-integer3 .ensures .0)
-    (ap (integerOf (a .shape .i32)) (widen-same w32 (b .result) (b .ok) tt ∙ b .ensures))
+    stored-as (a .manner) (a .serial) (a .at) (now (a .part)) (now (a .table)) (a .place) (c .before .before .before .before .match .keys4) (c .before .put-integer3 .ensures .0)
+    (ap (integerOf (a .manner .i32)) (widen-same w32 (b .result) (b .ok) tt ∙ b .ensures))
     (c .before .put-integer3 .ensures .1)
 
 same-length-5 : tie.Need-same-length-5
@@ -171,8 +171,8 @@ returns-5 : tie.Need-returns-5
 unfolding valueBy widthOf
 returns-5 c = let a = c .before .before .before .before .before .before .args in
     let b = c .before .before .be-i32 in
-    stored-as (a .shape) (a .kind) (a .at) (now (a .part)) (now (a .table)) (a .place) (c .before .before .before .before .match .keys5) (c .before .put-integer4 .ensures .0)
-    (ap (integerOf (a .shape .i32)) (widen-same w32 (b .result) (b .ok) tt ∙ b .ensures))
+    stored-as (a .manner) (a .serial) (a .at) (now (a .part)) (now (a .table)) (a .place) (c .before .before .before .before .match .keys5) (c .before .put-integer4 .ensures .0)
+    (ap (integerOf (a .manner .i32)) (widen-same w32 (b .result) (b .ok) tt ∙ b .ensures))
     (c .before .put-integer4 .ensures .1)
 
 same-length-6 : tie.Need-same-length-6
@@ -182,8 +182,8 @@ returns-6 : tie.Need-returns-6
 unfolding valueBy widthOf
 returns-6 c = let a = c .before .before .before .before .before .before .args in
     let b = c .before .before .be-i48 in
-    stored-as (a .shape) (a .kind) (a .at) (now (a .part)) (now (a .table)) (a .place) (c .before .before .before .before .match .keys6) (c .before .put-integer5 .ensures .0)
-    (ap (integerOf (a .shape .i64)) (toZ-ofZ {w = w64} (record { sfits = b .ok }) ∙ b .ensures))
+    stored-as (a .manner) (a .serial) (a .at) (now (a .part)) (now (a .table)) (a .place) (c .before .before .before .before .match .keys6) (c .before .put-integer5 .ensures .0)
+    (ap (integerOf (a .manner .i64)) (toZ-ofZ {w = w64} (record { sfits = b .ok }) ∙ b .ensures))
     (c .before .put-integer5 .ensures .1)
 
 same-length-7 : tie.Need-same-length-7
@@ -193,8 +193,8 @@ returns-7 : tie.Need-returns-7
 unfolding valueBy widthOf
 returns-7 c = let a = c .before .before .before .before .before .before .args in
     let b = c .before .before .be-i64 in
-    stored-as (a .shape) (a .kind) (a .at) (now (a .part)) (now (a .table)) (a .place) (c .before .before .before .before .match .keys7) (c .before .put-integer6 .ensures .0)
-    (ap (integerOf (a .shape .i64)) (toZ-ofZ {w = w64} (record { sfits = b .ok }) ∙ b .ensures))
+    stored-as (a .manner) (a .serial) (a .at) (now (a .part)) (now (a .table)) (a .place) (c .before .before .before .before .match .keys7) (c .before .put-integer6 .ensures .0)
+    (ap (integerOf (a .manner .i64)) (toZ-ofZ {w = w64} (record { sfits = b .ok }) ∙ b .ensures))
     (c .before .put-integer6 .ensures .1)
 
 same-length-8 : tie.Need-same-length-8
@@ -204,7 +204,7 @@ returns-8 : tie.Need-returns-8
 unfolding valueBy widthOf
 returns-8 c = let a = c .before .before .before .before .before .before .before .args in
     let b = c .before .before .before .be-u64 in
-    stored-as (a .shape) (a .kind) (a .at) (now (a .part)) (now (a .table)) (a .place) (c .before .before .before .before .before .match .keys8) (c .before .put-at2 .ensures .0)
+    stored-as (a .manner) (a .serial) (a .at) (now (a .part)) (now (a .table)) (a .place) (c .before .before .before .before .before .match .keys8) (c .before .put-at2 .ensures .0)
     (c .before .before .real-of .ensures ∙ ap realOf (b .ensures))
     (c .before .put-at2 .ensures .1)
 
@@ -214,7 +214,7 @@ same-length-9 c = search needs
 returns-9 : tie.Need-returns-9
 unfolding valueBy widthOf
 returns-9 c = let a = c .before .before .before .before .before .args in
-    stored-as (a .shape) (a .kind) (a .at) (now (a .part)) (now (a .table)) (a .place) (c .before .before .before .match .keys9) (c .before .put-integer7 .ensures .0 ∙ sym (add-zero (a .at)))
+    stored-as (a .manner) (a .serial) (a .at) (now (a .part)) (now (a .table)) (a .place) (c .before .before .before .match .keys9) (c .before .put-integer7 .ensures .0 ∙ sym (add-zero (a .at)))
     (refl)
     (c .before .put-integer7 .ensures .1)
 
@@ -224,8 +224,8 @@ same-length-10 c = search needs
 returns-10 : tie.Need-returns-10
 unfolding valueBy widthOf
 returns-10 c = let a = c .before .before .before .before .before .before .args in
-    stored-as (a .shape) (a .kind) (a .at) (now (a .part)) (now (a .table)) (a .place) (c .before .before .before .before .match .keys10) (c .before .put-integer8 .ensures .0 ∙ sym (add-zero (a .at)))
-    (ap (integerOf (a .shape .i8)) (toZ-ofZ {w = w64} {z = a .shape .one} (record { sfits = c .before .before .struct-told .given .1 .1 .1 .1 .0 .1 })))
+    stored-as (a .manner) (a .serial) (a .at) (now (a .part)) (now (a .table)) (a .place) (c .before .before .before .before .match .keys10) (c .before .put-integer8 .ensures .0 ∙ sym (add-zero (a .at)))
+    (ap (integerOf (a .manner .i8)) (toZ-ofZ {w = w64} {z = a .manner .one} (record { sfits = c .before .before .struct-told .given .1 .1 .1 .1 .0 .1 })))
     (c .before .put-integer8 .ensures .1)
 
 same-length-11 : tie.Need-same-length-11
@@ -234,8 +234,8 @@ same-length-11 c = search needs
 returns-11 : tie.Need-returns-11
 returns-11 c = let a = c .before .before .before .before .before .args in
     let h = ten (c .before .before .before .match .rest) in
-    let l = width-past (a .kind) h (c .before .before .before .before .before .pre .1) in
-    let e : longFrom (a .shape .least) (a .kind) (a .at) ≡ valueBy (a .shape) (a .kind) (a .at) (now (a .part)) = sym (by-long (a .shape) (a .kind) (a .at) (now (a .part)) h) in
+    let l = width-past (a .serial) h (c .before .before .before .before .before .pre .1) in
+    let e : longFrom (a .manner .least) (a .serial) (a .at) ≡ valueBy (a .manner) (a .serial) (a .at) (now (a .part)) = sym (by-long (a .manner) (a .serial) (a .at) (now (a .part)) h) in
     (c .before .put-long .ensures .0 ∙ ap (λ n. a .at + n) (sym (l .1)), c .before .put-long .ensures .1 ∙ ap (λ v. sets (now (a .table)) (a .place) (wordsOf v)) e)
 
 pub put-value-spec : {M : Type 1} → statement M

@@ -1,4 +1,4 @@
--- The value is that of the column's type and place.
+-- The value of the column.
 use borrow.Author.Needs.{needs}
 use Rattle.row.proofs.file.shown.Statement.{statement}
 use Rattle.row.proofs.file.shown.Tie as tie
@@ -9,8 +9,8 @@ enum-known-column c = search needs
 enum-known-column-2 : tie.Need-enum-known-column-2
 enum-known-column-2 c = search needs
 
-from-requires : tie.Need-from-requires
-from-requires c κs = search needs
+behind-requires : tie.Need-behind-requires
+behind-requires c κs = search needs
 
 value-of-requires : tie.Need-value-of-requires
 value-of-requires c κs = search needs
@@ -19,7 +19,7 @@ returns : tie.Need-returns
 returns c = rw (c .before .column .given .1)
 
 returns-2 : tie.Need-returns-2
-returns-2 c = rw (c .before .before .before .column2 .given .1, rw (c .before .from .ensures) at (c .value-of .ensures))
+returns-2 c = rw (c .before .before .before .column2 .given .1, c .value-of .ensures, c .before .behind .ensures)
 
 pub shown-spec : {M : Type 1} → statement M
 shown-spec =
@@ -27,7 +27,7 @@ shown-spec =
     (tie.spec
     enum-known-column
     enum-known-column-2
-    from-requires
+    behind-requires
     value-of-requires
     returns
     returns-2)

@@ -7,10 +7,10 @@ use Rattle.stream.proofs.old.cells.Statement.{statement}
 use Rattle.stream.proofs.old.cells.Tie as tie
 
 abbrev Inv-loop : tie.InvT-loop
-Inv-loop db out₀ at key count n₀ i₀ out n i = length out ≡ length out₀
+Inv-loop db out₀ at asked opening count n₀ i₀ out n i = length out ≡ length out₀
 
 abbrev μ-loop : tie.MeasureT-loop
-μ-loop db out₀ at key count n₀ i₀ out n i = count - i
+μ-loop db out₀ at asked opening count n₀ i₀ out n i = count - i
 
 loop-holds : tie.Need-loop-holds Inv-loop μ-loop
 loop-holds c = search needs

@@ -6,17 +6,17 @@ use Rattle.values.proofs.file.long.Statement.{statement}
 use Rattle.values.proofs.file.long.Tie as tie
 
 returns : tie.Need-returns
-returns c = rw (lt-ltb (c .before .args .kind) 12 (c .if1 .taken))
+returns c = rw (lt-ltb (c .before .args .serial) 12 (c .if1 .taken))
 
 returns-2 : tie.Need-returns-2
 returns-2 c =
-    let kind = c .before .before .args .kind in
-    rw (length-either kind (c .before .if1 .left), le-ltb kind 12 (c .before .if1 .left), eq-eqb (kind % 2) 0 (c .if2 .taken))
+    let serial = c .before .before .args .serial in
+    rw (length-either serial (c .before .if1 .left), le-ltb serial 12 (c .before .if1 .left), eq-eqb (serial % 2) 0 (c .if2 .taken))
 
 returns-3 : tie.Need-returns-3
 returns-3 c =
-    let kind = c .before .before .args .kind in
-    rw (length-either kind (c .before .if1 .left), le-ltb kind 12 (c .before .if1 .left), ne-eqb (kind % 2) 0 (c .if2 .left))
+    let serial = c .before .before .args .serial in
+    rw (length-either serial (c .before .if1 .left), le-ltb serial 12 (c .before .if1 .left), ne-eqb (serial % 2) 0 (c .if2 .left))
 
 pub long-spec : {M : Type 1} → statement M
 long-spec = tie.close (tie.spec returns returns-2 returns-3)

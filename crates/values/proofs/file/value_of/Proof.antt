@@ -104,7 +104,7 @@ returns-10 c = rw (c .match .keys10)
 returns-11 : tie.Need-returns-11
 returns-11 c =
     let a = c .before .before .before .args in
-    c .long .ensures ∙ sym (file-long (a .kind) (a .at) (now (a .part)) (ten (c .before .match .rest)))
+    c .long .ensures ∙ sym (file-long (a .serial) (a .at) (now (a .part)) (ten (c .before .match .rest)))
 
 pub value-of-spec : {M : Type 1} → statement M
 value-of-spec =

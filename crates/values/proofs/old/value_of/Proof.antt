@@ -85,7 +85,7 @@ returns-8 c =
     let u = c .before .be-u64 in
     rw (c .before .before .match .keys8, c .number-of .ensures, u .ensures)
 
-eight : (c : tie.At-match-rest) → 8 ≤ c .before .before .args .kind
+eight : (c : tie.At-match-rest) → 8 ≤ c .before .before .args .serial
 eight c =
     let r = c .match .rest in
     past 7 (past 6 (past 5 (past 4 (past 3 (past 2 (past 1 (past 0 zero-le (r .0 .0 .0 .0 .0 .0 .0 .1)) (r .0 .0 .0 .0 .0 .0 .1)) (r .0 .0 .0 .0 .0 .1)) (r .0 .0 .0 .0 .1)) (r .0 .0 .0 .1)) (r .0 .0 .1)) (r .0 .1)) (r .1)
@@ -93,12 +93,12 @@ eight c =
 returns-9 : tie.Need-returns-9
 returns-9 c =
     let a = c .before .before .before .args in
-    sym (old-constant (a .kind) (a .at) (now (a .part)) (eight (c .before)) (c .if1 .taken))
+    sym (old-constant (a .serial) (a .at) (now (a .part)) (eight (c .before)) (c .if1 .taken))
 
 returns-10 : tie.Need-returns-10
 returns-10 c =
     let a = c .before .before .before .before .args in
-    c .long .ensures ∙ sym (old-long (a .kind) (a .at) (now (a .part)) (c .before .if1 .left))
+    c .long .ensures ∙ sym (old-long (a .serial) (a .at) (now (a .part)) (c .before .if1 .left))
 
 pub value-of-spec : {M : Type 1} → statement M
 value-of-spec =

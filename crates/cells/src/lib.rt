@@ -1,0 +1,148 @@
+// The cells of an opened page: a pointer, the part of the page that begins there, and the cell in it.
+//
+// From the file format, 1.6 "B-tree Pages", and the Rust's four `_b_tree_page` functions. A cell is checked whole and by
+// itself, whatever the page's other cells are like.
+ghost use mathlib.Core.Path.{_≡_};
+ghost use Prim.Native.Nat.{_≤_, _<_};
+ghost use Rattle.page.specs.Kinds.{pointersEnd};
+ghost use Rattle.page.specs.Open.{onPage};
+ghost use Rattle.cell.specs.Cell.{answerOf};
+ghost use Rattle.cells.specs.Pointers.{pointerAt, outside, cellAt, Fitting};
+ghost use Rattle.cells.specs.Located.{rowNumber, locatedFrom, locatedIn, locatedOf, locatedAnswer};
+use answers::Fault;
+use answers::Reason;
+use answers::Refusal;
+use cell::Cell;
+use cell::CellAnswer;
+use fields::be_u16;
+use page::Open;
+use page::OpenAnswer;
+use place::Page;
+use reading::Reading;
+
+// A cell with its page and its pointer.
+pub struct Located {
+    pub opened: Open,
+    pub pointer: u32,
+    pub cell: Cell,
+}
+
+pub enum LocatedAnswer {
+    Shown(Located),
+    Refused(Refusal),
+}
+
+// Pointer `i` of an opened page.
+fn pointer_at(page: &[u8], opened: Open, i: usize) -> u32
+    requires { ⌜ Fitting opened (now page) × (i < opened .cells) ⌝ }
+    ensures { λ r. ⌜ r ≡ pointerAt opened i (now (page .entry)) ⌝ }
+{
+    let kind = opened.kind;
+    let at = opened.from + page::head_size(kind) + 2 * i;
+    be_u16(&page[at..]) as u32
+}
+
+// Whether a pointer names no place where a cell may begin.
+fn is_outside(opened: Open, pointer: u32) -> bool
+    requires { ⌜ pointersEnd (opened .from) (opened .kind) (opened .cells) ≤ opened .end ⌝ }
+    ensures { λ r. ⌜ r ≡ outside (opened .page .reading) opened pointer ⌝ }
+{
+    let page = opened.page;
+    let reading = page.reading;
+    match reading {
+        Reading::Old => {
+            if opened.end < pointer {
+                return true;
+            }
+            return (pointer as usize) < opened.from;
+        }
+        Reading::File => {
+            let kind = opened.kind;
+            if (pointer as usize) < opened.from + page::head_size(kind) + 2 * opened.cells {
+                return true;
+            }
+            return opened.end <= pointer;
+        }
+    }
+}
+
+// The cell that a pointer names.
+fn cell_by(page: &[u8], opened: Open, pointer: u32) -> CellAnswer
+    requires { ⌜ Fitting opened (now page) ⌝ }
+    ensures { λ r. ⌜ r ≡ answerOf (opened .page .reading) (cellAt opened pointer (now (page .entry))) ⌝ }
+{
+    if is_outside(opened, pointer) {
+        return CellAnswer::Faulty(Fault::PointerOutside);
+    }
+    let named = opened.page;
+    let reading = named.reading;
+    let kind = opened.kind;
+    let start = pointer as usize;
+    let end = opened.end as usize;
+    cell::cell_of(&page[start..end], reading, kind, opened.end)
+}
+
+fn absent(page: Page, reason: Reason) -> LocatedAnswer
+    ensures { λ r. ⌜ r ≡ locatedAnswer (onPage page reason) ⌝ }
+{
+    LocatedAnswer::Refused(Refusal::OnPage {
+        page: page.number,
+        reason,
+    })
+}
+
+// Cell `i` of an opened page whose bytes are `page`.
+fn located_in(page: &[u8], opened: Open, i: usize) -> LocatedAnswer
+    requires { ⌜ Fitting opened (now page) ⌝ }
+    ensures { λ r. ⌜ r ≡ locatedAnswer (locatedFrom opened i (now (page .entry))) ⌝ }
+{
+    let named = opened.page;
+    if opened.cells <= i {
+        return absent(named, Reason::NoSuchCell);
+    }
+    let pointer = pointer_at(page, opened, i);
+    let shown = cell_by(page, opened, pointer);
+    match shown {
+        CellAnswer::Faulty(fault) => LocatedAnswer::Refused(Refusal::InCell {
+            page: named.number,
+            cell: i,
+            fault,
+        }),
+        CellAnswer::Shown(cell) => LocatedAnswer::Shown(Located {
+            opened,
+            pointer,
+            cell,
+        }),
+    }
+}
+
+// Cell `i` of a page that was opened, with no check of header and page made again. One that a caller makes up is answered
+// too: where it does not lie in the bytes, it is absent.
+pub fn cell_in(db: &[u8], opened: Open, i: usize) -> LocatedAnswer
+    ensures { λ r. ⌜ r ≡ locatedAnswer (locatedIn opened i (now (db .entry))) ⌝ }
+{
+    if page::lies(db.len(), opened) {
+        return located_in(place::bytes_of(db, opened.at, opened.size), opened, i);
+    }
+    absent(opened.page, Reason::PageAbsent)
+}
+
+// Cell `i` of a page, and no other cell.
+pub fn cell_at(db: &[u8], page: Page, i: usize) -> LocatedAnswer
+    ensures { λ r. ⌜ r ≡ locatedAnswer (locatedOf page i (now (db .entry))) ⌝ }
+{
+    let answer = page::open_page(db, page);
+    match answer {
+        OpenAnswer::Refused(refusal) => LocatedAnswer::Refused(refusal),
+        OpenAnswer::Shown(opened) => cell_in(db, opened, i),
+    }
+}
+
+// The row number or key of a located cell: 64 bits of two's complement.
+pub fn row_of(located: Located) -> i64
+    ensures { λ r. ⌜ r ≡ rowNumber (located .cell .row .value) ⌝ }
+{
+    let cell = located.cell;
+    let row = cell.row;
+    fields::signed_of(row.value)
+}

@@ -1,0 +1,39 @@
+-- The kind of a page, and its head. File format, 1.6: a page's header has the kind (1 byte), the first freeblock (2), the
+-- number of cells (2), the start of the cell content area (2, 0 meaning 65,536), fragmented bytes (1) and, on interior
+-- pages, the right-most pointer (4); the cell pointers, two bytes each, follow it.
+use Prim.Native.Nat.{ℕ, _+_, _*_}
+use mathlib.Core.List.{List}
+use lib.Dec.{ltb, eqb}
+use lib.ListN.{length, drop, getD}
+use Rattle.laws.specs.Pick.{pick}
+use Rattle.fields.specs.Fields.{unsigned}
+use Rattle.cell.specs.declared.Kind.{Kind}
+use Rattle.cell.specs.declared.Kind.the-variants.{InteriorIndex, InteriorTable, LeafIndex, LeafTable}
+use Rattle.page.specs.declared.KindAnswer.{KindAnswer}
+use Rattle.page.specs.declared.KindAnswer.the-variants.{Known, Unknown}
+
+-- the kind that a byte names
+abbrev pub kindOf : ℕ → KindAnswer
+kindOf b =
+    pick (eqb b 2) (Known InteriorIndex)
+    (pick (eqb b 5) (Known InteriorTable) (pick (eqb b 10) (Known LeafIndex) (pick (eqb b 13) (Known LeafTable) Unknown)))
+
+-- the kind that stands at `from` of a page, if a byte does
+abbrev pub kindAt : ℕ → List ℕ → KindAnswer
+kindAt from page = pick (ltb from (length page)) (kindOf (getD page from 0)) Unknown
+
+abbrev pub headSize : Kind → ℕ
+headSize InteriorIndex = 12
+headSize InteriorTable = 12
+headSize LeafIndex = 8
+headSize LeafTable = 8
+
+abbrev pub cellsAt : ℕ → List ℕ → ℕ
+cellsAt from page = unsigned 2 (drop (from + 3) page)
+
+-- where the first pointer stands, and where the pointers end
+abbrev pub pointersAt : ℕ → Kind → ℕ
+pointersAt from k = from + headSize k
+
+abbrev pub pointersEnd : ℕ → Kind → ℕ → ℕ
+pointersEnd from k cells = pointersAt from k + 2 * cells

@@ -1,0 +1,108 @@
+-- What callers cite of pages: that one which is there lies in the bytes, and how long it is; and what a shape says.
+use Prim.Native.Nat.{ℕ, suc, _+_, _-_, _*_, _^_, _≤_, _<_}
+use mathlib.Core.Path.{_≡_, refl, sym, _∙_}
+use mathlib.Core.List.{List}
+use mathlib.Core.Bool.{Bool, true, false}
+use native.Mathlib.Nat.{add-mul, mul-le-mul-right}
+use native.Mathlib.Omega.{arith}
+use lib.Dec.{ltb, eqb}
+use lib.ListN.{length, drop, length-drop}
+use lib.Seq.{length-take-le}
+use borrow.Author.Tests.{ltb-false}
+use Rattle.laws.specs.Pick.{pick}
+use Rattle.laws.proofs.Never.{never}
+use Rattle.reading.specs.declared.Reading.{Reading}
+use Rattle.reading.specs.declared.Reading.the-variants.{Old as old, File as file}
+use Rattle.answers.specs.declared.Flaw.{Flaw}
+use Rattle.answers.specs.declared.Checked.the-variants.{Passed}
+use Rattle.answers.specs.Answer.{Answer, refused, shown}
+use Rattle.header.specs.declared.SizesAnswer.{SizesAnswer}
+use Rattle.header.specs.declared.SizesAnswer.the-variants as si
+use Rattle.header.specs.Header.{pageSize, end, checkedOf, sizesOf, sizesIn}
+use Rattle.header.proofs.Laws.{sizes-shown, sizes-passed, usable-below}
+use Rattle.place.specs.declared.Page.{Page}
+use Rattle.place.specs.declared.Place.{Place}
+use Rattle.place.specs.declared.Place.the-variants.{At, Absent}
+use Rattle.place.specs.declared.Shape.{Shape}
+use Rattle.place.specs.declared.ShapeAnswer.the-variants as sh
+use Rattle.place.specs.Place.{headerAt, placeFrom, placeBy, placeOf, pageAt}
+use Rattle.place.specs.Shape.{wholePages, shapeBy, shapeOf, shapeAnswer}
+
+-- PLACES
+
+-- what is so of a place: the page lies in the bytes, and its header is at its beginning or behind the database's
+abbrev pub Lies : ℕ → ℕ → Place → Type 0
+Lies size bytes (At at from) = (at + size ≤ bytes) × (from ≤ 100)
+Lies size bytes Absent = Unit {0}
+
+header-near : (index : ℕ) → headerAt index ≤ 100
+header-near index = go (eqb index 0)
+  where
+    go : (b : Bool) → pick b 100 0 ≤ 100
+    go true = omega arith
+    go false = omega arith
+
+from-lies : (bytes size index : ℕ) → Lies size bytes (placeFrom bytes size index)
+from-lies bytes size index = go (ltb bytes (index * size + size)) refl
+  where
+    go : (b : Bool) → ltb bytes (index * size + size) ≡ b → Lies size bytes (pick b Absent (At (index * size) (headerAt index)))
+    go true e = tt
+    go false e = (ltb-false bytes (index * size + size) e, header-near index)
+
+by-lies : (r : Reading) (bytes size number : ℕ) → Lies size bytes (placeBy r bytes size number)
+by-lies old bytes size number = from-lies bytes size number
+by-lies file bytes size number = go (eqb number 0)
+  where
+    go : (b : Bool) → Lies size bytes (pick b Absent (placeFrom bytes size (number - 1)))
+    go true = tt
+    go false = from-lies bytes size (number - 1)
+
+pub place-lies : (page : Page) (bytes size : ℕ) → Lies size bytes (placeOf page bytes size)
+unfolding placeOf
+place-lies page bytes size = by-lies (page .reading) bytes size (page .number)
+
+-- an index and a size of 32 bits each
+pub product-fits : {index size : ℕ} → index < 2 ^ 32 → size < 2 ^ 32 → index * size + size < 2 ^ 64
+product-fits {index} {size} h k =
+    let l : suc index * size ≤ 4294967296 * size = mul-le-mul-right size (omega arith) in
+    omega (arith, add-mul index 1 size)
+
+-- the page of a place is as long as its size
+pub page-length : (at size : ℕ) (db : List ℕ) → at + size ≤ length db → length (pageAt at size db) ≡ size
+page-length at size db h = length-take-le size (drop at db) (rw length-drop (omega arith))
+
+-- SHAPES
+
+-- the code's answer is the definition's
+pub shape-answered : (x : Answer Flaw Shape) {s : Shape} → shapeAnswer x ≡ sh.Shown s → x ≡ shown s
+shape-answered (refused flaw) e = never cc
+shape-answered (shown t) e = cc
+
+pub shape-unanswered : (x : Answer Flaw Shape) {flaw : Flaw} → shapeAnswer x ≡ sh.Refused flaw → x ≡ refused flaw
+shape-unanswered (refused other) e = cc
+shape-unanswered (shown t) e = never cc
+
+module _ (r : Reading) (db : List ℕ) where
+  abbrev pub shapeIn : Shape
+  shapeIn = record { «page_size» = pageSize db; end = end r db; pages = wholePages (length db) (pageSize db) }
+
+  -- where the checks pass
+  pub shape-passed : checkedOf r db ≡ Passed → shapeOf r db ≡ shown shapeIn
+  unfolding shapeOf
+  shape-passed p = rw (sizes-passed r db p)
+
+  pub shape-shown : {s : Shape} → shapeOf r db ≡ shown s → (checkedOf r db ≡ Passed) × (s ≡ shapeIn)
+  unfolding shapeOf
+  shape-shown {s} e = go (sizesOf r db) refl e
+    where
+      go : (x : SizesAnswer) → sizesOf r db ≡ x → shapeBy (length db) x ≡ shown s → (checkedOf r db ≡ Passed) × (s ≡ shapeIn)
+      go (si.Refused flaw) q d = never cc
+      go (si.Shown sizes) q d =
+          let k = sizes-shown r db sizes q in
+          let i : s ≡ record { «page_size» = sizes .«page_size»; end = sizes .end; pages = wholePages (length db) (sizes .«page_size») } = cc in
+          (k .0, rw (k .1) at i)
+
+-- where the cells of a page end is in the page
+pub end-within : (r : Reading) (db : List ℕ) {s : Shape} → shapeOf r db ≡ shown s → s .end ≤ s .«page_size»
+end-within old db e = rw (shape-shown old db e .1) (omega arith)
+end-within file db e = rw (shape-shown file db e .1) (usable-below db)

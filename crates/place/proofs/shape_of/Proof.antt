@@ -1,0 +1,38 @@
+-- The header's answer decides.
+use mathlib.Core.Path.{sym, _∙_}
+use Rattle.place.specs.Shape.{shapeOf}
+use borrow.Author.Needs.{needs}
+use Rattle.place.proofs.shape_of.Statement.{statement}
+use Rattle.place.proofs.shape_of.Tie as tie
+
+sizes-of-requires : tie.Need-sizes-of-requires
+sizes-of-requires c κs = search needs
+
+enum-known-sized : tie.Need-enum-known-sized
+enum-known-sized c = search needs
+
+enum-known-sized-2 : tie.Need-enum-known-sized-2
+enum-known-sized-2 c = search needs
+
+whole-pages-requires : tie.Need-whole-pages-requires
+whole-pages-requires c κs = search needs
+
+returns : tie.Need-returns
+unfolding shapeOf
+returns c = rw (sym (c .before .before .before .sizes-of .ensures) ∙ c .before .sized .given .1)
+
+returns-2 : tie.Need-returns-2
+unfolding shapeOf
+returns-2 c =
+    rw (sym (c .before .before .before .before .sizes-of .ensures) ∙ c .before .before .sized2 .given .1, c .whole-pages .ensures)
+
+pub shape-of-spec : {M : Type 1} → statement M
+shape-of-spec =
+    tie.close
+    (tie.spec
+    sizes-of-requires
+    enum-known-sized
+    enum-known-sized-2
+    whole-pages-requires
+    returns
+    returns-2)

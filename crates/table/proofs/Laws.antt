@@ -1,0 +1,137 @@
+-- What callers cite of a page call: the check of the cells, one cell after the other; that the cells of an accepted page fit in
+-- its table; and that each of them is located.
+use Prim.Native.Nat.{ℕ, zero, suc, _+_, _-_, _≤_, _<_, zero-le}
+use mathlib.Core.Path.{_≡_, refl, ap}
+use mathlib.Core.List.{List}
+use mathlib.Core.Bool.{Bool, true, false}
+use native.Mathlib.Omega.{arith}
+use native.Mathlib.Nat.{add-zero}
+use lib.Dec.{ltb}
+use lib.ListN.{length, drop}
+use borrow.Author.Tests.{ltb-false}
+use Rattle.laws.specs.Pick.{pick}
+use Rattle.laws.proofs.Never.{never}
+use Rattle.answers.specs.declared.Reason.the-variants as re
+use Rattle.answers.specs.declared.Refusal.{Refusal}
+use Rattle.answers.specs.Answer.{Answer, refused, shown}
+use Rattle.place.specs.declared.Page.{Page}
+use Rattle.place.specs.Place.{pageAt}
+use Rattle.page.specs.declared.Open.{Open}
+use Rattle.page.specs.declared.OpenAnswer.{OpenAnswer}
+use Rattle.page.specs.declared.OpenAnswer.the-variants as oa
+use Rattle.page.specs.Open.{onPage, openOf, openAnswer, liesIn}
+use Rattle.cells.specs.Located.{Located, locatedIn}
+use Rattle.cells.proofs.Laws.{Steps}
+use Rattle.table.specs.declared.CellsAnswer.{CellsAnswer}
+use Rattle.table.specs.declared.CellsAnswer.the-variants as ce
+use Rattle.table.specs.declared.Head.{Head}
+use Rattle.table.specs.declared.PageAnswer.the-variants as pa
+use Rattle.table.specs.Head.{headOf}
+use Rattle.table.specs.Page.{cellsFrom, headBy, pageIn, pageAnswer, pageFor, pageOf, written}
+
+-- THE CHECK OF THE CELLS
+
+-- of n cells, i are passed
+module _ (o : Open) (db : List ℕ) (n i : ℕ) where
+  pub cells-sound : n ≤ i → cellsFrom o db i (n - i) ≡ ce.Sound
+  unfolding cellsFrom
+  cells-sound h = let e : n - i ≡ 0 = omega arith in rw e
+
+  module _ (h : i < n) where
+    one-more : n - i ≡ suc (n - (i + 1))
+    one-more = omega arith
+
+    pub cells-next : {l : Located} → locatedIn o i db ≡ shown l → cellsFrom o db i (n - i) ≡ cellsFrom o db (i + 1) (n - (i + 1))
+    unfolding cellsFrom
+    cells-next e = rw one-more (simp (cellsFrom, e))
+
+    pub cells-stop : {refusal : Refusal} → locatedIn o i db ≡ refused refusal → cellsFrom o db i (n - i) ≡ ce.Refused refusal
+    unfolding cellsFrom
+    cells-stop e = rw one-more (simp (cellsFrom, e))
+
+-- AN ACCEPTED PAGE
+
+-- of an opened page
+record Accepted (o : Open) (room : ℕ) (db : List ℕ) (head : Head) : Type 0 where
+  cells : head .cells ≡ o .cells
+  fits : o .cells ≤ room
+  sound : cellsFrom o db 0 (o .cells) ≡ ce.Sound
+
+abbrev headIn : Open → List ℕ → Head
+headIn o db = headOf o (drop (o .from) (pageAt (o .at) (o .size) db))
+
+module _ (o : Open) (room : ℕ) (db : List ℕ) {head : Head} where
+  by-cells : o .cells ≤ room → (x : CellsAnswer) → cellsFrom o db 0 (o .cells) ≡ x → headBy (headIn o db) x ≡ shown head → Accepted o room db head
+  unfolding headOf
+  by-cells f ce.Sound s e =
+      let h : head ≡ headIn o db = cc in
+      record { cells = ap (λ (h : Head). h .cells) h; fits = f; sound = s }
+  by-cells f (ce.Refused refusal) s e = never cc
+
+  by-room : (b : Bool) → ltb room (o .cells) ≡ b
+      → pick b (onPage (o .page) re.TableTooShort) (headBy (headIn o db) (cellsFrom o db 0 (o .cells))) ≡ shown head → Accepted o room db head
+  by-room true t e = never cc
+  by-room false t e = by-cells (ltb-false room (o .cells) t) (cellsFrom o db 0 (o .cells)) refl e
+
+  accepted : pageIn o room db ≡ shown head → Accepted o room db head
+  unfolding pageIn
+  accepted e = go (liesIn (length db) o) e
+    where
+      go : (b : Bool)
+          → pick b (pick (ltb room (o .cells)) (onPage (o .page) re.TableTooShort) (headBy (headIn o db) (cellsFrom o db 0 (o .cells)))) (onPage (o .page) re.PageAbsent) ≡ shown head
+          → Accepted o room db head
+      go true d = by-room (ltb room (o .cells)) refl d
+      go false d = never cc
+
+-- the code's answer is the definition's
+pub page-answered : (x : Answer Refusal Head) {head : Head} → pageAnswer x ≡ pa.Shown head → x ≡ shown head
+page-answered (refused refusal) e = never cc
+page-answered (shown h) e = cc
+
+-- a page that is shown has no more cells than the table has places, and one that is refused writes none
+pub cells-within : (opening : OpenAnswer) (room : ℕ) (db : List ℕ) → written (pageFor opening room db) ≤ room
+unfolding pageFor
+cells-within (oa.Refused refusal) room db = zero-le
+cells-within (oa.Shown o) room db = go (pageIn o room db) refl
+  where
+    go : (x : Answer Refusal Head) → pageIn o room db ≡ x → written (pageAnswer x) ≤ room
+    go (refused refusal) e = zero-le
+    go (shown head) e = let a = accepted o room db e in omega (arith, a .cells, a .fits)
+
+-- ITS CELLS
+
+-- where a run of cells is sound, each of them is located
+record Shown (o : Open) (i : ℕ) (db : List ℕ) : Type 0 where
+  l : Located
+  is : locatedIn o i db ≡ shown l
+
+each : (o : Open) (db : List ℕ) (from left : ℕ) → cellsFrom o db from left ≡ ce.Sound → (k : ℕ) → k < left → Shown o (from + k) db
+unfolding cellsFrom
+each o db from zero s k h = absurd (omega arith)
+each o db from (suc left) s k h = go (locatedIn o from db) refl (λ d j l. each o db (from + 1) left d j l) s k h
+  where
+    go : (x : Answer Refusal Located) → locatedIn o from db ≡ x
+        → (cellsFrom o db (from + 1) left ≡ ce.Sound → (j : ℕ) → j < left → Shown o (from + 1 + j) db)
+        → elim x [ shown l ↦ cellsFrom o db (from + 1) left | refused refusal ↦ ce.Refused refusal ] ≡ ce.Sound
+        → (k : ℕ) → k < suc left → Shown o (from + k) db
+    go (refused refusal) q ih d k h = never cc
+    go (shown l) q ih d zero h = rw (add-zero from) (record { l = l; is = q })
+    go (shown l) q ih d (suc k) h = let m : from + suc k ≡ from + 1 + k = omega arith in rw m (ih d k (omega arith))
+
+-- a cell of a page, with the way to it
+pub record Cell (page : Page) (i : ℕ) (db : List ℕ) : Type 0 where
+  pub l : Located
+  pub steps : Steps page i db l
+
+-- on a page that the call accepts, every cell is located
+pub page-cell : (page : Page) (room i : ℕ) (db : List ℕ) {head : Head} → pageOf page room db ≡ pa.Shown head → i < head .cells → Cell page i db
+unfolding pageFor
+page-cell page room i db {head} e b = go (openOf page db) refl e
+  where
+    go : (x : Answer Refusal Open) → openOf page db ≡ x → pageFor (openAnswer x) room db ≡ pa.Shown head → Cell page i db
+    go (refused refusal) q d = never cc
+    go (shown o) q d =
+        let a = accepted o room db (page-answered (pageIn o room db) d) in
+        let z : 0 + i ≡ i = omega arith in
+        let c = rw z at (each o db 0 (o .cells) (a .sound) i (omega (arith, a .cells))) in
+        record { l = c .l; steps = record { o = o; first = q; second = c .is } }

@@ -1,0 +1,4 @@
+pub mod Head
+pub mod Entry
+pub mod Page
+pub mod Agreement
