@@ -4,7 +4,7 @@
 // comes to each of its columns; any other is answered too, and no step reads or shows what lies outside the bytes. From the
 // file format, 2.1 "Record Format", and the Rust's `column_values`.
 ghost use mathlib.Core.Path.{_≡_};
-ghost use Prim.Native.Nat.{_+_, _-_, _≤_, min};
+ghost use Prim.Native.Nat.{_+_, _-_, _≤_};
 ghost use lib.ListN.{take, drop};
 ghost use Rattle.columns.specs.Columns.{endIn, passed, stepOf, slotOf};
 use reading::Reading;
@@ -54,12 +54,6 @@ fn between(s: &[u8], at: usize, stop: usize) -> &[u8]
     &s[at..stop]
 }
 
-fn smaller(a: usize, b: usize) -> usize
-    ensures { λ r. ⌜ r ≡ min a b ⌝ }
-{
-    if a < b { a } else { b }
-}
-
 // How far it is from `at` to the end, if that is not passed.
 fn bytes_left(end: usize, at: usize) -> usize
     ensures { λ r. ⌜ r ≡ end - at ⌝ }
@@ -71,22 +65,15 @@ fn bytes_left(end: usize, at: usize) -> usize
 }
 
 impl Cursor {
-    // How many bytes the values have left: none that is past the end of the bytes.
-    fn room(self, s: &[u8]) -> usize
-        ensures { λ r. ⌜ r ≡ endIn self (now (s .entry)) - self .value ⌝ }
-    {
-        smaller(
-            bytes_left(self.end, self.value),
-            bytes_left(s.len(), self.value),
-        )
-    }
-
-    // Past a column of type `serial`, if its value of `width` bytes ends in time.
+    // Past a column of type `serial`, if its value of `width` bytes ends before the values and the bytes do.
     fn pass(self, s: &[u8], serial: Number, width: u64) -> Stepped
         requires { ⌜ self .at + serial .length ≤ self .stop ⌝ }
         ensures { λ r. ⌜ r ≡ passed (endIn self (now (s .entry))) self serial width ⌝ }
     {
-        if (self.room(s) as u64) < width {
+        if (bytes_left(self.end, self.value) as u64) < width {
+            return Stepped::Done;
+        }
+        if (bytes_left(s.len(), self.value) as u64) < width {
             return Stepped::Done;
         }
         let reading = self.reading;

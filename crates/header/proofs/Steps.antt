@@ -9,7 +9,7 @@ use native.Mathlib.Numerals.{add-one}
 use native.Mathlib.Omega.{arith}
 use lib.Dec.{leb, eqb, leb→le, eqb→eq}
 use lib.ListN.{length, take, drop, getD, length-take, drop-of-length-le}
-use lib.Seq.{drop-cons, take-nil, take-all}
+use lib.Seq.{drop-cons, take-all}
 use mir.Facts.{and-yes}
 use borrow.Author.Tests.{eq-eqb, ne-eqb}
 use Rattle.laws.proofs.Table.{at}
@@ -54,15 +54,23 @@ module _ (s l : List ℕ) (i : ℕ) where
     left : length l - i ≡ suc (length l - suc i)
     left = omega arith
 
-    pub rest-cut : length s ≤ i → rest s l i ≡ false
-    rest-cut k = rw (drop-of-length-le s k, take-nil (length l - i), drop-cons l i 0)
-
     module _ (k : i < length s) where
       pub rest-same : getD s i 0 ≡ getD l i 0 → rest s l i ≡ rest s l (i + 1)
       rest-same e = rw (left, add-one, drop-cons s i 0, drop-cons l i 0, eq-eqb (getD s i 0) (getD l i 0) e)
 
       pub rest-differs : (getD s i 0 ≡ getD l i 0 → ⊥) → rest s l i ≡ false
       rest-differs e = rw (left, drop-cons s i 0, drop-cons l i 0, ne-eqb (getD s i 0) (getD l i 0) e)
+
+-- what is too short is not alike
+pub short-unlike : (s l : List ℕ) → length s < length l → alike s l ≡ false
+short-unlike [] [] h = absurd (omega arith)
+short-unlike [] (y ∷ l) h = refl
+short-unlike (x ∷ s) [] h = absurd (omega arith)
+short-unlike (x ∷ s) (y ∷ l) h = rw (short-unlike s l (omega arith)) (and-false (eqb x y))
+  where
+    and-false : (b : Bool) → (b && false) ≡ false
+    and-false true = refl
+    and-false false = refl
 
 -- ONE OF A LIST
 

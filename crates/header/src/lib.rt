@@ -77,11 +77,11 @@ fn field(db: &[u8], i: usize) -> u32
 fn opens(db: &[u8]) -> bool
     ensures { λ r. ⌜ r ≡ alike (take 16 (now (db .entry))) opening ⌝ }
 {
+    if db.len() < 16 {
+        return false;
+    }
     let mut i: usize = 0;
     while i < 16 {
-        if db.len() <= i {
-            return false;
-        }
         if db[i] != OPENING[i] {
             return false;
         }
