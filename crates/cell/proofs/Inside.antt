@@ -1,7 +1,7 @@
 -- A cell that is shown lies in its part: the numbers, behind them the payload, and in that the types and values of its record,
 -- which fit.
 use Prim.Native.Nat.{ℕ, _+_, _-_, _≤_}
-use mathlib.Core.Path.{_≡_, refl}
+use mathlib.Core.Path.{_≡_, refl, ap}
 use mathlib.Core.List.{List}
 use mathlib.Core.Bool.{Bool, true, false}
 use native.Mathlib.Omega.{arith}
@@ -13,12 +13,12 @@ use Rattle.reading.specs.declared.Reading.the-variants.{Old as old, File as fil
 use Rattle.reading.specs.Reading.{limit}
 use Rattle.answers.specs.Answer.{shown}
 use Rattle.record.specs.declared.Fit.the-variants.{Fits}
-use Rattle.record.specs.Types.{typesOf, count, walk}
+use Rattle.record.specs.Types.{done, typesOf, count, walk}
 use Rattle.record.specs.Record.{typeBytes, valuesAt, judged, recordOf}
-use Rattle.record.proofs.Laws.{types-nil}
+use Rattle.record.proofs.Laws.{types-nil, walk-done}
 use Rattle.record.proofs.Accepted.{accepted}
-use Rattle.cell.specs.declared.Kind.{Kind}
-use Rattle.cell.specs.Kind.{hasSize}
+use Rattle.kinds.specs.declared.Kind.{Kind}
+use Rattle.kinds.specs.Kind.{hasSize}
 use Rattle.cell.specs.Numbers.{none, numbersOf}
 use Rattle.cell.specs.Cell.{Cell, bare, cellOf}
 use Rattle.cell.proofs.Laws.{numbered, payload-within}
@@ -55,9 +55,8 @@ record-held r q c {left} l e =
 
 -- a cell with no payload holds no types
 none-held : (r : Reading) (q : List ℕ) (c : Cell) → bare (c .numbers) ≡ c → Held r q c
-unfolding walk
-none-held old q c e = rw (← e) (record { values = omega arith; types = types-nil 5; left = 0; fits = refl })
-none-held file q c e = rw (← e) (record { values = omega arith; types = types-nil 9; left = 0; fits = refl })
+none-held old q c e = rw (← e) (record { values = omega arith; types = types-nil 5; left = 0; fits = ap (judged old done) (walk-done 0 0) })
+none-held file q c e = rw (← e) (record { values = omega arith; types = types-nil 9; left = 0; fits = ap (judged file done) (walk-done 0 0) })
 
 pub inside : (r : Reading) (k : Kind) (u : ℕ) (s : List ℕ) {c : Cell} → cellOf r k u s ≡ shown c → Inside r k s c
 inside r k u s {c} e = go (hasSize k) refl

@@ -9,7 +9,7 @@ use Rattle.answers.specs.declared.Fault.the-variants as fa
 use Rattle.answers.specs.Answer.{Answer, refused, shown}
 use Rattle.record.specs.Types.{Types, count}
 use Rattle.record.specs.Record.{valuesAt}
-use Rattle.cell.specs.declared.Kind.{Kind}
+use Rattle.kinds.specs.declared.Kind.{Kind}
 use Rattle.cell.specs.declared.Numbers.{Numbers}
 use Rattle.cell.specs.declared.NumbersAnswer.the-variants as na
 use Rattle.cell.specs.declared.Cell as dc

@@ -20,10 +20,10 @@ use Rattle.reading.specs.Reading.{limit}
 use Rattle.answers.specs.declared.Fault.{Fault}
 use Rattle.answers.specs.declared.Fault.the-variants as fa
 use Rattle.answers.specs.Answer.{Answer, refused, shown}
-use Rattle.cell.specs.declared.Kind.{Kind}
+use Rattle.kinds.specs.declared.Kind.{Kind}
+use Rattle.kinds.specs.Kind.{hasSize, hasRow, childBytes}
 use Rattle.cell.specs.declared.Numbers.{Numbers}
 use Rattle.cell.specs.declared.Payload.the-variants as pa
-use Rattle.cell.specs.Kind.{hasSize, hasRow, childBytes}
 use Rattle.cell.specs.Numbers.{none, numberIn, childAt, numbersOf}
 use Rattle.cell.specs.Cell.{payloadIn}
 

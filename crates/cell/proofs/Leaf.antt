@@ -14,10 +14,10 @@ use Rattle.reading.specs.declared.Reading.the-variants.{Old as old, File as fil
 use Rattle.reading.specs.Reading.{limit}
 use Rattle.answers.specs.Answer.{shown}
 use Rattle.record.specs.Record.{recordOf}
-use Rattle.cell.specs.declared.Kind.the-variants.{LeafTable}
+use Rattle.kinds.specs.declared.Kind.the-variants.{LeafTable}
+use Rattle.kinds.specs.Kind.{hasClosing, mostWhole}
 use Rattle.cell.specs.declared.Numbers.{Numbers}
 use Rattle.cell.specs.declared.Payload.the-variants as pa
-use Rattle.cell.specs.Kind.{hasClosing, mostWhole}
 use Rattle.cell.specs.Numbers.{numbersOf}
 use Rattle.cell.specs.Cell.{Cell, payloadIn, cellOf}
 use Rattle.cell.proofs.Laws.{numbered, numbers-read}

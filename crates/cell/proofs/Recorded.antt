@@ -14,11 +14,11 @@ use Rattle.answers.specs.declared.Fault.{Fault}
 use Rattle.answers.specs.declared.Fault.the-variants as fa
 use Rattle.answers.specs.Answer.{Answer, refused, shown, _>>=_}
 use Rattle.record.specs.Record.{Record, found, recordOf}
-use Rattle.cell.specs.declared.Kind.{Kind}
+use Rattle.kinds.specs.declared.Kind.{Kind}
+use Rattle.kinds.specs.Kind.{hasSize, hasClosing, mostWhole}
 use Rattle.cell.specs.declared.Numbers.{Numbers}
 use Rattle.cell.specs.declared.Payload.{Payload}
 use Rattle.cell.specs.declared.Payload.the-variants as pa
-use Rattle.cell.specs.Kind.{hasSize, hasClosing, mostWhole}
 use Rattle.cell.specs.Numbers.{numberIn, numbersOf}
 use Rattle.cell.specs.Cell.{Cell, payloadIn, payloadBy, behind, bare, cellOf}
 

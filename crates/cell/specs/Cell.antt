@@ -14,14 +14,14 @@ use Rattle.answers.specs.declared.Fault.the-variants as fa
 use Rattle.answers.specs.Answer.{Answer, refused, shown, _>>=_}
 use Rattle.record.specs.Types.{Types, done, count}
 use Rattle.record.specs.Record.{valuesAt, found, recordOf}
-use Rattle.cell.specs.declared.Kind.{Kind}
+use Rattle.kinds.specs.declared.Kind.{Kind}
+use Rattle.kinds.specs.Kind.{hasSize, hasClosing, mostWhole}
 use Rattle.cell.specs.declared.Numbers.{Numbers}
 use Rattle.cell.specs.declared.Payload.{Payload}
 use Rattle.cell.specs.declared.Payload.the-variants as pa
 use Rattle.cell.specs.declared.Cell as dc
 use Rattle.cell.specs.declared.CellAnswer.{CellAnswer}
 use Rattle.cell.specs.declared.CellAnswer.the-variants as ca
-use Rattle.cell.specs.Kind.{hasSize, hasClosing, mostWhole}
 use Rattle.cell.specs.Numbers.{none, numberIn, numbersOf}
 
 -- a cell that is accepted: its numbers, how many bytes of payload stand behind them, the record's header size and types, and

@@ -1,3 +1,2 @@
-pub mod Kind
 pub mod Numbers
 pub mod Cell

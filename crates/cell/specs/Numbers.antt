@@ -17,11 +17,11 @@ use Rattle.answers.specs.declared.Fault.{Fault}
 use Rattle.answers.specs.declared.Fault.the-variants as fa
 use Rattle.answers.specs.Answer.{Answer, refused, shown, _>>=_}
 use Rattle.record.specs.Record.{found}
-use Rattle.cell.specs.declared.Kind.{Kind}
+use Rattle.kinds.specs.declared.Kind.{Kind}
+use Rattle.kinds.specs.Kind.{interior, hasSize, hasRow, childBytes}
 use Rattle.cell.specs.declared.Numbers.{Numbers}
 use Rattle.cell.specs.declared.NumbersAnswer.{NumbersAnswer}
 use Rattle.cell.specs.declared.NumbersAnswer.the-variants as na
-use Rattle.cell.specs.Kind.{interior, hasSize, hasRow, childBytes}
 
 -- 0 in no bytes, for what a kind lacks
 abbrev pub none : Number

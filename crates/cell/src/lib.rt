@@ -4,108 +4,19 @@
 // down: the numbers before the payload, how many bytes the payload has, the record in it, and what stands behind that.
 // From the file format, 1.6 "B-tree Pages", and the Rust's `_cell` functions.
 ghost use mathlib.Core.Path.{_≡_};
-ghost use Prim.Native.Nat.{_-_, _*_, _/_};
-ghost use Rattle.cell.specs.Kind.{kindByte, interior, hasSize, hasRow, hasClosing, childBytes, mostWhole};
+ghost use Prim.Native.Nat.{_-_};
+ghost use lib.ListN.{length, drop};
+ghost use Rattle.kinds.specs.Kind.{hasClosing};
 ghost use Rattle.cell.specs.Numbers.{numberIn, childAt, numbersOf, numbersAnswer};
 ghost use Rattle.cell.specs.Cell.{payloadIn, behind, cellOf, answerOf};
 use answers::Fault;
+use kinds::Kind;
+use parts::less;
 use reading::Reading;
 use reading::limit_of;
 use record::RecordAnswer;
 use varint::Number;
 use varint::Varint;
-
-pub enum Kind {
-    InteriorIndex,
-    InteriorTable,
-    LeafIndex,
-    LeafTable,
-}
-
-impl Kind {
-    pub fn byte(self) -> u8
-        ensures { λ r. ⌜ r ≡ kindByte self ⌝ }
-    {
-        match self {
-            Kind::InteriorIndex => 2,
-            Kind::InteriorTable => 5,
-            Kind::LeafIndex => 10,
-            Kind::LeafTable => 13,
-        }
-    }
-
-    pub fn is_interior(self) -> bool
-        ensures { λ r. ⌜ r ≡ interior self ⌝ }
-    {
-        match self {
-            Kind::InteriorIndex => true,
-            Kind::InteriorTable => true,
-            Kind::LeafIndex => false,
-            Kind::LeafTable => false,
-        }
-    }
-
-    // Whether its cells have a payload, and the size of it.
-    pub fn has_size(self) -> bool
-        ensures { λ r. ⌜ r ≡ hasSize self ⌝ }
-    {
-        match self {
-            Kind::InteriorIndex => true,
-            Kind::InteriorTable => false,
-            Kind::LeafIndex => true,
-            Kind::LeafTable => true,
-        }
-    }
-
-    // Whether its cells have a row number or a key.
-    pub fn has_row(self) -> bool
-        ensures { λ r. ⌜ r ≡ hasRow self ⌝ }
-    {
-        match self {
-            Kind::InteriorIndex => false,
-            Kind::InteriorTable => true,
-            Kind::LeafIndex => false,
-            Kind::LeafTable => true,
-        }
-    }
-
-    // Whether one more varint stands behind a record.
-    fn has_closing(self, reading: Reading) -> bool
-        ensures { λ r. ⌜ r ≡ hasClosing reading self ⌝ }
-    {
-        match reading {
-            Reading::Old => match self {
-                Kind::InteriorIndex => true,
-                Kind::InteriorTable => false,
-                Kind::LeafIndex => true,
-                Kind::LeafTable => false,
-            },
-            Reading::File => false,
-        }
-    }
-
-    // How many bytes a child takes.
-    pub fn child_bytes(self) -> usize
-        ensures { λ r. ⌜ r ≡ childBytes self ⌝ }
-    {
-        if self.is_interior() {
-            return 4;
-        }
-        0
-    }
-
-    // The largest payload that lies whole on a page.
-    pub fn most_whole(self, usable: u32) -> u64
-        ensures { λ r. ⌜ r ≡ mostWhole self usable ⌝ }
-    {
-        match self {
-            Kind::InteriorIndex => index_most(usable),
-            Kind::InteriorTable => 0,
-            Kind::LeafIndex => index_most(usable),
-            Kind::LeafTable => less(usable as u64, 35),
-        }
-    }
-}
 
 // The numbers before a cell's payload. What its kind lacks is 0, in no bytes.
 pub struct Numbers {
@@ -144,19 +55,6 @@ pub struct Cell {
 pub enum CellAnswer {
     Shown(Cell),
     Faulty(Fault),
-}
-
-// a - b, or 0 where b is larger.
-fn less(a: u64, b: u64) -> u64
-    ensures { λ r. ⌜ r ≡ a - b ⌝ }
-{
-    if a < b { 0 } else { a - b }
-}
-
-fn index_most(usable: u32) -> u64
-    ensures { λ r. ⌜ r ≡ (usable - 12) * 64 / 255 - 23 ⌝ }
-{
-    less(less(usable as u64, 12) * 64 / 255, 23)
 }
 
 // A varint, where there is one; `other` where there is none.
@@ -229,6 +127,14 @@ pub fn payload_of(s: &[u8], reading: Reading, most: u64, p: u64) -> Payload
     }
 }
 
+// The varint behind a record that leaves `left` bytes of its payload `q`, where the kind has one; else the key.
+fn closing_in(q: &[u8], reading: Reading, kind: Kind, left: u64, key: Number) -> Varint
+    ensures { λ r. ⌜ r ≡ numberIn (hasClosing reading kind) 5 key (drop (length (now (q .entry)) - left) (now (q .entry))) ⌝ }
+{
+    let at = less(q.len() as u64, left) as usize;
+    number_in(&q[at..], kind.has_closing(reading), varint::OLD_LIMIT, key)
+}
+
 // The cell behind its numbers: payload, record, and what stands behind that.
 fn behind_of(s: &[u8], reading: Reading, kind: Kind, usable: u32, numbers: Numbers) -> CellAnswer
     ensures { λ r. ⌜ r ≡ answerOf reading (behind reading kind usable numbers (now (s .entry))) ⌝ }
@@ -247,14 +153,8 @@ fn behind_of(s: &[u8], reading: Reading, kind: Kind, usable: u32, numbers: Numbe
                     return CellAnswer::Faulty(fault);
                 }
                 RecordAnswer::Whole(record) => {
-                    let at = less(q.len() as u64, record.left) as usize;
                     let key = numbers.key;
-                    let Varint::Value(row) = number_in(
-                        &q[at..],
-                        kind.has_closing(reading),
-                        varint::OLD_LIMIT,
-                        key,
-                    ) else {
+                    let Varint::Value(row) = closing_in(q, reading, kind, record.left, key) else {
                         return CellAnswer::Faulty(Fault::ClosingCut);
                     };
                     let header = record.header;

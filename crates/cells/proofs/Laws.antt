@@ -1,6 +1,6 @@
 -- What callers cite of located cells: what is so of one, taken apart and put together again, and what answers keep of it.
-use Prim.Native.Nat.{ℕ, _+_, _-_, _*_, _^_, _≤_, _<_}
-use mathlib.Core.Path.{_≡_, refl, sym, _∙_}
+use Prim.Native.Nat.{ℕ, _-_, _≤_, _<_}
+use mathlib.Core.Path.{_≡_, refl, sym}
 use mathlib.Core.List.{List}
 use mathlib.Core.Bool.{Bool, true, false}
 use native.Mathlib.Omega.{arith}
@@ -12,7 +12,7 @@ use borrow.Author.Tests.{ltb-true, ltb-false, leb-false, lt-ltb}
 use Rattle.laws.specs.Pick.{pick}
 use Rattle.laws.proofs.Never.{never}
 use Rattle.laws.proofs.Bools.{neither}
-use Rattle.fields.specs.Fields.{twos}
+use Rattle.fields.proofs.Twos.{lower}
 use Rattle.varint.specs.declared.Number.{Number}
 use Rattle.varint.specs.declared.Varint.the-variants.{Value}
 use Rattle.varint.specs.Varint.{varintOf}
@@ -35,6 +35,7 @@ use Rattle.page.specs.declared.Open.{Open}
 use Rattle.page.specs.Kinds.{pointersEnd}
 use Rattle.page.specs.Open.{onPage, openOf, liesIn}
 use Rattle.page.proofs.Opened.{Opened, lies-opened, opened-lies}
+use Rattle.page.proofs.Sites.{open-page}
 use Rattle.cells.specs.declared.Located as dl
 use Rattle.cells.specs.declared.LocatedAnswer.{LocatedAnswer}
 use Rattle.cells.specs.declared.LocatedAnswer.the-variants as la
@@ -63,8 +64,7 @@ module _ (o : Open) (db : List ℕ) (is : Opened o db) where
 
 -- a row number that the Rust reads, of five bytes at most, is itself as two's complement
 pub old-row : (s : List ℕ) {n : Number} → varintOf 5 s ≡ Value n → rowNumber (n .value) ≡ pos (n .value)
-unfolding twos
-old-row s {n} e = let l = value-below s 5 (omega arith) e in rw (lt-ltb (2 * n .value) (2 ^ 64) (omega arith))
+old-row s {n} e = let l = value-below s 5 (omega arith) e in lower 0x8000_0000_0000_0000 (n .value) (omega arith)
 
 -- A LOCATED CELL
 
@@ -142,6 +142,10 @@ module _ (page : Page) (i : ℕ) (db : List ℕ) where
       go : (x : Answer Refusal Open) → openOf page db ≡ x → (x >>= (λ o. locatedIn o i db)) ≡ shown l → Steps page i db l
       go (refused refusal) q d = never cc
       go (shown o) q d = record { o = o; first = q; second = d }
+
+  -- it is on the page that was asked for
+  pub located-page : {l : Located} → locatedOf page i db ≡ shown l → l .opened .page ≡ page
+  located-page e = let s = steps e in rw (held (s .o) i db (s .second) .opened) (open-page page db (s .first))
 
 pub opened-first : OpenedFirst
 opened-first page i db o e = located-open page i db e

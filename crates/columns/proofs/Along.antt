@@ -9,6 +9,24 @@ use Rattle.columns.specs.Columns.{slotOf, stepOf}
 use Rattle.columns.specs.Along.{onward, along, slotBy}
 use Rattle.columns.proofs.Laws.{slot-done, slot-here, slot-next}
 
+-- STEP BY STEP
+
+module _ (c : Cursor) (db : List ℕ) where
+  pub along-first : along 0 c db ≡ stepOf c db
+  unfolding along
+  along-first = refl
+
+  pub along-done : (k : ℕ) → stepOf c db ≡ Done → along k c db ≡ Done
+  unfolding along
+  along-done zero e = e
+  along-done (suc k) e = rw e
+
+  pub along-next : {t at : ℕ} {next : Cursor} → stepOf c db ≡ Column t at next → (k : ℕ) → along (suc k) c db ≡ along k next db
+  unfolding along
+  along-next e k = rw e
+
+-- AT ONCE
+
 pub along-slot : (k : ℕ) (c : Cursor) (db : List ℕ) → slotBy (along k c db) ≡ slotOf k c db
 unfolding along
 along-slot zero c db = go (stepOf c db) refl

@@ -1,5 +1,5 @@
 -- How a cursor goes along the types: what one step comes to, and that column k is found by k steps.
-use Prim.Native.Nat.{ℕ, suc, _+_, _-_, _<_}
+use Prim.Native.Nat.{ℕ, suc, _+_, _-_, _≤_, _<_}
 use mathlib.Core.Path.{_≡_, refl, sym, ap, _∙_}
 use mathlib.Core.List.{List, [], _∷_}
 use mathlib.Core.Bool.{Bool, true, false}
@@ -133,6 +133,11 @@ module _ (c : Cursor) (db : List ℕ) where
           → Passed (column x rest) t at next
       by-width wi.Reserved f d = never cc
       by-width (wi.Bytes w) f d = by-room w f (ltb (endIn c db - c .value) w) refl d
+
+  -- where the values end in the bytes
+  pub slot-within : c .end ≤ length db → (k : ℕ) → slotOf k c db ≡ slotIn k (c .value) (c .end) (typesAt c db)
+  unfolding slotOf
+  slot-within l k = let e : endIn c db ≡ c .end = omega arith in rw e
 
   pub slot-done : (k : ℕ) → stepOf c db ≡ Done → slotOf k c db ≡ Missing
   unfolding stepOf stepIn slotOf slotIn

@@ -1,6 +1,6 @@
 -- A cursor that is opened on a cell goes along the types of the cell, and finds its columns.
 use Prim.Native.Nat.{ℕ, _+_, _-_, _≤_}
-use mathlib.Core.Path.{_≡_}
+use mathlib.Core.Path.{_≡_, ap, _∙_}
 use mathlib.Core.List.{List}
 use native.Mathlib.Omega.{arith}
 use lib.ListN.{length, take, drop}
@@ -10,8 +10,9 @@ use Rattle.reading.specs.declared.Reading.{Reading}
 use Rattle.record.specs.Record.{typeBytes, valuesAt}
 use Rattle.cell.specs.Cell.{Cell}
 use Rattle.cell.proofs.Inside.{Held}
-use Rattle.columns.specs.Columns.{typesAt, endIn, slotIn, slotOf}
+use Rattle.columns.specs.Columns.{typesAt, slotIn, slotOf}
 use Rattle.columns.specs.Opened.{cursorAt}
+use Rattle.columns.proofs.Laws.{slot-within}
 
 -- the payload of the cell c stands at `base` of the bytes
 module _ (r : Reading) (base : ℕ) (c : Cell) (db : List ℕ) (held : Held r (take (c .payload) (drop base db)) c) where
@@ -22,5 +23,5 @@ module _ (r : Reading) (base : ℕ) (c : Cell) (db : List ℕ) (held : Held r (t
 
   pub cursor-slots : base + c .payload ≤ length db → (k : ℕ)
       → slotOf k (cursorAt r base c) db ≡ slotIn k (base + valuesAt r (c .header)) (base + c .payload) (c .types)
-  unfolding slotOf
-  cursor-slots l k = let e : endIn (cursorAt r base c) db ≡ base + c .payload = omega arith in rw (e, cursor-types)
+  cursor-slots l k =
+      slot-within (cursorAt r base c) db l k ∙ ap (slotIn k (base + valuesAt r (c .header)) (base + c .payload)) cursor-types

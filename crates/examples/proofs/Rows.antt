@@ -23,7 +23,7 @@ use Rattle.row.specs.Column as rc
 use Rattle.row.specs.Old as rold
 use Rattle.row.specs.File as rfile
 use Rattle.guarded.specs.Guarded as gu
-use Rattle.guarded.specs.Shows.{oldShows, fileShows, guardedShows}
+use Rattle.agreement.specs.Shows.{oldShows, fileShows, guardedShows}
 use Rattle.examples.specs.Rows.{databaseOf, seenOf, Worked}
 
 pub worked : Worked

@@ -14,7 +14,7 @@ use Rattle.answers.specs.declared.Fault.the-variants as fa
 use Rattle.answers.specs.declared.Mark.the-variants as ma
 use Rattle.header.specs.Header.{opening}
 use Rattle.cells.specs.Located.{rowNumber}
-use Rattle.guarded.specs.Shows.{null, integer, text, Row, none, row, oldShows, fileShows, guardedShows}
+use Rattle.agreement.specs.Shows.{null, integer, text, Row, none, row, oldShows, fileShows, guardedShows}
 
 -- the bytes of a varint, or a payload and what stands behind it on its page
 pub data Given : Type 0 where

@@ -34,28 +34,31 @@ use Rattle.row.specs.declared.FoundAnswer.the-variants as fo
 use Rattle.row.specs.declared.ColumnAnswer.{ColumnAnswer}
 use Rattle.row.specs.declared.ColumnAnswer.the-variants as cl
 use Rattle.row.specs.Found.{cursorIn, foundBy}
-use Rattle.row.specs.Column.{slotThen, columnBy, columnOf}
+use Rattle.row.specs.Column.{slotThen, columnBy}
 use Rattle.row.specs.Old as old-calls
 use Rattle.row.specs.File as file-calls
 use Rattle.row.proofs.Placed.{placed-in, column-along}
+use Rattle.row.proofs.Told.{old-shown-located, file-shown-located}
 use Rattle.guarded.specs.Guarded as guarded
 use Rattle.guarded.proofs.Guard.{leaf-opened, guarded-in, guarded-open}
+use Rattle.guarded.proofs.Calls.{guarded-shown-located}
 use Rattle.usual.specs.declared.RowAnswer.the-variants as ra
 use Rattle.usual.specs.Usual as usual
-use Rattle.exports.specs.declared.types.Opened.{Opened}
-use Rattle.exports.specs.declared.types.Value.{Value}
-use Rattle.exports.specs.declared.types.Shown.{Shown}
-use Rattle.exports.specs.Refusals.{accepted}
-use Rattle.exports.specs.Pages.{readingOf, openingBy, openOf}
-use Rattle.exports.specs.Rows.{cellBy, rowOf}
-use Rattle.exports.specs.Shown.{oldShown, fileShown}
-use Rattle.exports.specs.Run.{Run, run, before, wordsOf, valueAt, runFrom, filledBy, over}
+use Rattle.usual.proofs.Rows.{row-found}
+use Rattle.turns.specs.declared.types.Opened.{Opened}
+use Rattle.turns.specs.declared.types.Value.{Value}
+use Rattle.turns.specs.declared.types.Shown.{Shown}
+use Rattle.turns.specs.Refusals.{accepted}
+use Rattle.turns.specs.Pages.{readingOf, openingBy, openOf}
+use Rattle.turns.specs.Rows.{cellBy, rowOf}
+use Rattle.turns.specs.Shown.{oldShown, fileShown}
+use Rattle.filled.specs.Run.{Run, run, before, wordsOf, valueAt, runFrom, filledBy, over}
 use Rattle.exports.specs.Calls.{openingOf, rowIn}
 use Rattle.exports.specs.Agreement.{cellIn, shownOf, cellFrom, CellsAgree, RowShows, AsManyAsFit}
-use Rattle.exports.proofs.Filling.{run-done, run-full, run-more}
-use Rattle.exports.proofs.Checked.{Left, at-first, Next, next, none-left, whole-found}
+use Rattle.filled.proofs.Filling.{run-done, run-full, run-more}
+use Rattle.filled.proofs.Checked.{Left, at-first, Next, next, none-left, whole-found}
 use Rattle.exports.proofs.Found.{found-whole}
-use Rattle.exports.proofs.Back.{Behind, page-behind}
+use Rattle.turns.proofs.Back.{Behind, page-behind}
 
 -- PLACES
 
@@ -137,22 +140,17 @@ module _ (i : ℕ) (db : List ℕ) (o : Opened) where
 
   -- its cell, and the cell's columns
   row-plain : {n : ℕ} → o .reading ≡ n → eqb n 2 ≡ false → rowIn o i db ≡ usual.rowBy (foundBy (locatedIn (openOf o) i db))
-  unfolding usual.rowIn
-  row-plain r f = ap (λ (g : Bool). usual.rowIn g (openOf o) i db) (ap (λ (m : ℕ). eqb m 2) r ∙ f)
+  row-plain r f = ap (λ (g : Bool). usual.rowIn g (openOf o) i db) (ap (λ (m : ℕ). eqb m 2) r ∙ f) ∙ row-found false (openOf o) i db
 
   row-guarded : o .reading ≡ 2 → rowIn o i db ≡ usual.rowBy (foundBy (guarded.locatedIn (openOf o) i db))
-  unfolding usual.rowIn
-  row-guarded r = ap (λ (m : ℕ). usual.rowIn (eqb m 2) (openOf o) i db) r
+  row-guarded r = ap (λ (m : ℕ). usual.rowIn (eqb m 2) (openOf o) i db) r ∙ row-found true (openOf o) i db
 
-  column-of : (k n : ℕ) (r : Reading) {x y : Answer Refusal Located} → x ≡ y → o .reading ≡ n → readingOf n ≡ r
-      → shownIn r db (columnBy k x) ≡ shownIn (readingOf (o .reading)) db (columnBy k y)
-  column-of k n r {y = y} e f g =
-      ap (λ (z : Answer Refusal Located). shownIn r db (columnBy k z)) e
-      ∙ ap (λ (q : Reading). shownIn q db (columnBy k y)) (sym (ap readingOf f ∙ g))
+  column-of : (n : ℕ) (r : Reading) (answer : ColumnAnswer) → o .reading ≡ n → readingOf n ≡ r
+      → shownIn r db answer ≡ shownIn (readingOf (o .reading)) db answer
+  column-of n r answer f g = ap (λ (q : Reading). shownIn q db answer) (sym (ap readingOf f ∙ g))
 
 located-by : (reading number i : ℕ) (db : List ℕ) (o : Opened) → openingOf reading number db ≡ record { refused = accepted; opened = o }
     → Located-by reading number i db o
-unfolding columnOf old-calls.shownOf file-calls.shownOf guarded.shownOf
 located-by reading number i db o e = go (eqb reading 0) (eqb reading 2) refl refl
   where
     go : (a b : Bool) → eqb reading 0 ≡ a → eqb reading 2 ≡ b → Located-by reading number i db o
@@ -160,31 +158,34 @@ located-by reading number i db o e = go (eqb reading 0) (eqb reading 2) refl ref
     go true false f g =
         let b = again i db o (oldPage number) 0 refl (rw (f, g) at e) in
         let s = located-open (oldPage number) i db (b .is) in
+        let here = locatedIn (openOf o) i db in
         record {
-          x = locatedIn (openOf o) i db;
+          x = here;
           row = row-plain i db o (b .reading) refl;
           cell = rw f (ap (λ (y : Answer Refusal Located). cellBy (foundBy y)) s);
-          shows = λ k. rw f (column-of i db o k 0 old s (b .reading) refl);
+          shows = λ k. rw f (ap oldShown (old-shown-located number i k db s) ∙ column-of i db o 0 old (columnBy k here) (b .reading) refl);
           lies = λ l d. d;
         }
     go false true f g =
         let b = again-guarded i db o number (rw (eqb-true reading 2 g) at e) in
         let s = guarded-open number i db (b .is) in
+        let here = guarded.locatedIn (openOf o) i db in
         record {
-          x = guarded.locatedIn (openOf o) i db;
+          x = here;
           row = row-guarded i db o (b .reading);
           cell = rw (f, g) (ap (λ (y : Answer Refusal Located). cellBy (foundBy y)) s);
-          shows = λ k. rw (f, g) (column-of i db o k 2 file s (b .reading) refl);
+          shows = λ k. rw (f, g) (ap fileShown (guarded-shown-located number i k db s) ∙ column-of i db o 2 file (columnBy k here) (b .reading) refl);
           lies = λ l d. guarded-in (openOf o) i db d .located;
         }
     go false false f g =
         let b = again i db o (filePage number) 1 refl (rw (f, g) at e) in
         let s = located-open (filePage number) i db (b .is) in
+        let here = locatedIn (openOf o) i db in
         record {
-          x = locatedIn (openOf o) i db;
+          x = here;
           row = row-plain i db o (b .reading) refl;
           cell = rw (f, g) (ap (λ (y : Answer Refusal Located). cellBy (foundBy y)) s);
-          shows = λ k. rw (f, g) (column-of i db o k 1 file s (b .reading) refl);
+          shows = λ k. rw (f, g) (ap fileShown (file-shown-located number i k db s) ∙ column-of i db o 1 file (columnBy k here) (b .reading) refl);
           lies = λ l d. d;
         }
 

@@ -1,6 +1,6 @@
 -- A row that is found was checked: its columns are all there.
 use Prim.Native.Nat.{ℕ, _-_}
-use mathlib.Core.Path.{_≡_, refl, ap}
+use mathlib.Core.Path.{_≡_, refl, sym, ap, _∙_}
 use mathlib.Core.List.{List}
 use mathlib.Core.Bool.{Bool, true, false}
 use native.Mathlib.Omega.{arith}
@@ -20,7 +20,8 @@ use Rattle.guarded.specs.Guarded as guarded
 use Rattle.guarded.proofs.Guard.{guarded-in}
 use Rattle.usual.specs.declared.RowAnswer.the-variants.{Shown}
 use Rattle.usual.specs.Usual.{rowBy, rowIn}
-use Rattle.exports.specs.Whole.{Whole}
+use Rattle.usual.proofs.Rows.{row-found}
+use Rattle.filled.specs.Whole.{Whole}
 
 -- a cell that lies in the bytes
 placed-whole : (l : Located) (db : List ℕ) → Placed l db → Whole (cursorIn l) (count (l .cell .types)) db
@@ -30,6 +31,7 @@ placed-whole l db p =
     record {
       ordered = omega (arith, p .held .values);
       within = p .within;
+      header = omega (arith, p .held .values, p .within);
       left = p .held .left;
       fits = rw (e, room) (p .held .fits);
       columns = ap count e;
@@ -44,6 +46,6 @@ by-cell (shown l) db {k = k} {c = c} d lies =
     rw (← f, ← m) (placed-whole l db (lies l refl))
 
 pub found-whole : (o : Open) (i : ℕ) (db : List ℕ) {n k : ℕ} {c : Cursor} (g : Bool) → rowIn g o i db ≡ Shown n k c → Whole c k db
-unfolding rowIn
-found-whole o i db true e = by-cell (guarded.locatedIn o i db) db e (λ l d. placed-in o i db (guarded-in o i db d .located))
-found-whole o i db false e = by-cell (cells.locatedIn o i db) db e (λ l d. placed-in o i db d)
+found-whole o i db true e =
+    by-cell (guarded.locatedIn o i db) db (sym (row-found true o i db) ∙ e) (λ l d. placed-in o i db (guarded-in o i db d .located))
+found-whole o i db false e = by-cell (cells.locatedIn o i db) db (sym (row-found false o i db) ∙ e) (λ l d. placed-in o i db d)

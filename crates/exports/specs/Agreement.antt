@@ -12,12 +12,12 @@ use Rattle.laws.specs.Pick.{pick}
 use Rattle.columns.specs.declared.Cursor.{Cursor}
 use Rattle.usual.specs.declared.RowAnswer.{RowAnswer}
 use Rattle.usual.specs.declared.RowAnswer.the-variants as ra
-use Rattle.exports.specs.declared.types.Opened.{Opened}
-use Rattle.exports.specs.declared.types.Cell.{Cell}
-use Rattle.exports.specs.declared.types.Shown.{Shown}
-use Rattle.exports.specs.Refusals.{accepted}
-use Rattle.exports.specs.Rows.{noCell, cellOf}
-use Rattle.exports.specs.Run.{wordsOf}
+use Rattle.turns.specs.declared.types.Opened.{Opened}
+use Rattle.turns.specs.declared.types.Cell.{Cell}
+use Rattle.turns.specs.declared.types.Shown.{Shown}
+use Rattle.turns.specs.Refusals.{accepted}
+use Rattle.turns.specs.Rows.{noCell, cellOf}
+use Rattle.filled.specs.Run.{wordsOf}
 use Rattle.exports.specs.Calls.{openingOf, rowIn, rowBy, rowOver, oldCell, fileCell, guardedCell, oldShownOf, fileShownOf, guardedShownOf}
 
 -- SINGLE CALLS, by the number of the reading: 0 is old, 2 guarded, any other number file

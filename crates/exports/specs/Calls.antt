@@ -22,19 +22,19 @@ use Rattle.guarded.specs.Guarded as guarded
 use Rattle.usual.specs.declared.RowAnswer.{RowAnswer}
 use Rattle.usual.specs.declared.RowAnswer.the-variants as ra
 use Rattle.usual.specs.Usual as usual
-use Rattle.exports.specs.declared.types.Header.{Header}
-use Rattle.exports.specs.declared.types.Pages.{Pages}
-use Rattle.exports.specs.declared.types.PageHead.{PageHead}
-use Rattle.exports.specs.declared.types.Opened.{Opened}
-use Rattle.exports.specs.declared.types.Opening.{Opening}
-use Rattle.exports.specs.declared.types.Along.{Along}
-use Rattle.exports.specs.declared.types.Cell.{Cell}
-use Rattle.exports.specs.declared.types.Shown.{Shown}
-use Rattle.exports.specs.declared.types.Row.{Row}
-use Rattle.exports.specs.Pages.{numberOf, readingOf, pageOf, headerBy, pagesBy, headBy, openingBy, openOf}
-use Rattle.exports.specs.Rows.{cursorOf, cellBy, noRow, rowOf}
-use Rattle.exports.specs.Shown.{oldShown, fileShown}
-use Rattle.exports.specs.Run.{Run, runFrom, filledBy, over}
+use Rattle.turns.specs.declared.types.Header.{Header}
+use Rattle.turns.specs.declared.types.Pages.{Pages}
+use Rattle.turns.specs.declared.types.PageHead.{PageHead}
+use Rattle.turns.specs.declared.types.Opened.{Opened}
+use Rattle.turns.specs.declared.types.Opening.{Opening}
+use Rattle.turns.specs.declared.types.Along.{Along}
+use Rattle.turns.specs.declared.types.Cell.{Cell}
+use Rattle.turns.specs.declared.types.Shown.{Shown}
+use Rattle.turns.specs.declared.types.Row.{Row}
+use Rattle.turns.specs.Pages.{numberOf, readingOf, pageOf, headerBy, pagesBy, headBy, openingBy, openOf}
+use Rattle.turns.specs.Rows.{cursorOf, cellBy, noRow, rowOf}
+use Rattle.turns.specs.Shown.{oldShown, fileShown}
+use Rattle.filled.specs.Run.{Run, runFrom, filledBy, over}
 
 -- THE DATABASE AND ITS PAGES
 

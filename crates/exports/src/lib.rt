@@ -1,35 +1,30 @@
 // Every public call for C and Rust: a turn of types and nothing more.
 //
-// Each function calls one of a reader and hands its answer on as a struct of numbers (`types`; `refusals`, `pages`, `rows` and
-// `shown` turn them): C has no enums that hold something, and an exported function answers no reference. Nothing is decided
-// here. The values of a row are stored in a table, from any cursor by the readers' own steps (`run`), and of a row that is
-// found in the same call with nothing looked for twice (`whole`). include/shorgavel.h declares the calls. A slice is a pointer
+// Each function calls one of a reader and hands its answer on as a struct of numbers (`turns`). Nothing is decided here. The
+// values of a row are stored in a table that is lent (`filled`). include/shorgavel.h declares the calls. A slice is a pointer
 // that is not null and a length, also where it is empty. Pages count from 0 in the old reading and from 1 in the other two.
-mod pages;
-mod refusals;
-mod rows;
-mod run;
-mod shown;
-pub mod types;
-mod whole;
-
 ghost use mathlib.Core.Path.{_≡_};
 ghost use Prim.Native.Nat.{_/_};
 ghost use lib.ListN.{length};
-ghost use Rattle.exports.specs.Run.{filledBy, over};
+ghost use Rattle.filled.specs.Run.{filledBy, over};
 ghost use Rattle.exports.specs.Calls.{headerOf, pagesOf, headOf, entryOf, entriesOver, openingOf, rowIn, rowBy, rowOver, oldCell, fileCell, guardedCell, oldRun, fileRun, oldShownOf, fileShownOf, guardedShownOf};
+use filled::run;
+use filled::whole;
 use reading::Reading;
 use table::Entry;
-use types::Along;
-use types::Cell;
-use types::Filled;
-use types::Header;
-use types::Opened;
-use types::Opening;
-use types::PageHead;
-use types::Pages;
-use types::Row;
-use types::Shown;
+use turns::pages;
+use turns::rows;
+use turns::shown;
+use turns::types::Along;
+use turns::types::Cell;
+use turns::types::Filled;
+use turns::types::Header;
+use turns::types::Opened;
+use turns::types::Opening;
+use turns::types::PageHead;
+use turns::types::Pages;
+use turns::types::Row;
+use turns::types::Shown;
 use usual::RowAnswer;
 
 // THE DATABASE AND ITS PAGES, by the number of the reading: 0 is old, any other number file
@@ -142,8 +137,8 @@ pub extern "C" fn shorgavel_guarded_cell(db: &[u8], number: u32, i: usize) -> Ce
 
 // THE VALUES OF A ROW
 
-// As many values from a cursor on as the table has places, and the cursor behind them. A place is a `types::Value`, five
-// words of 64 bits.
+// As many values from a cursor on as the table has places, and the cursor behind them. A place is a `turns::types::Value`,
+// five words of 64 bits.
 #[no_mangle]
 pub extern "C" fn shorgavel_old_values(db: &[u8], along: Along, table: &mut [i64]) -> Filled
     ensures { λ r. ⌜ (r ≡ filledBy (oldRun along (length (now (table .entry)) / 5) (now (db .entry))))

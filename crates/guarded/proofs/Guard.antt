@@ -7,11 +7,9 @@ use Rattle.laws.specs.Pick.{pick}
 use Rattle.laws.proofs.Never.{never}
 use Rattle.answers.specs.declared.Reason.the-variants as re
 use Rattle.answers.specs.declared.Refusal.{Refusal}
-use Rattle.answers.specs.declared.Refusal.the-variants.{InCell}
-use Rattle.answers.specs.declared.Fault.the-variants as fa
 use Rattle.answers.specs.Answer.{Answer, refused, shown, _>>=_}
-use Rattle.cell.specs.declared.Kind.{Kind}
-use Rattle.cell.specs.declared.Kind.the-variants.{InteriorIndex, InteriorTable, LeafIndex, LeafTable}
+use Rattle.kinds.specs.declared.Kind.{Kind}
+use Rattle.kinds.specs.declared.Kind.the-variants.{InteriorIndex, InteriorTable, LeafIndex, LeafTable}
 use Rattle.marks.specs.declared.Marking.{Marking}
 use Rattle.marks.specs.declared.Marking.the-variants.{Clear, By}
 use Rattle.marks.specs.Marks.{markOf}
@@ -20,13 +18,11 @@ use Rattle.page.specs.declared.Site.{Site}
 use Rattle.page.specs.declared.Open.{Open}
 use Rattle.page.specs.Open as page
 use Rattle.page.specs.Open.{onPage, siteOf, openFrom}
-use Rattle.page.proofs.Sites.{opening}
+use Rattle.page.proofs.Sites.{opening, open-site}
 use Rattle.cells.specs.Located as cells
 use Rattle.cells.specs.Located.{Located}
-use Rattle.cells.proofs.Laws.{held, located-open, located-unopened}
+use Rattle.cells.proofs.Laws.{located-open, located-unopened}
 use Rattle.guarded.specs.Guarded.{isLeafTable, leafOnly, openOf, unmarked, locatedIn, locatedOf}
-use Rattle.guarded.specs.Agreement.{EveryOpenGuarded}
-use Rattle.guarded.proofs.Pages.{open-site}
 
 -- THE KIND
 
@@ -35,12 +31,6 @@ leaf-kind InteriorIndex e = never cc
 leaf-kind InteriorTable e = never cc
 leaf-kind LeafIndex e = never cc
 leaf-kind LeafTable e = refl
-
-other-kind : (k : Kind) → (k ≡ LeafTable → ⊥) → isLeafTable k ≡ false
-other-kind InteriorIndex n = refl
-other-kind InteriorTable n = refl
-other-kind LeafIndex n = refl
-other-kind LeafTable n = absurd (n refl)
 
 -- A PAGE
 
@@ -116,16 +106,8 @@ module _ (o : Open) (i : ℕ) (db : List ℕ) where
       by-kind false t d = never cc
       by-kind true t d = by-cell (leaf-kind (o .kind) t) (cells.locatedIn o i db) refl d
 
-pub every-open-guarded : EveryOpenGuarded
-every-open-guarded o i db = (
-  λ l e. let g = guarded-in o i db e in (g .leaf, g .located, g .clear),
-  λ l k e m. leaf-in o i db (ap isLeafTable k) ∙ ap (guardedBy i) e ∙ ap (unmarked i l) m,
-  λ n. other-in o i db (other-kind (o .kind) n),
-  λ refusal k e. leaf-in o i db (ap isLeafTable k) ∙ ap (guardedBy i) e,
-  λ l mark k e m.
-      leaf-in o i db (ap isLeafTable k) ∙ ap (guardedBy i) e ∙ ap (unmarked i l) m
-      ∙ ap (λ (p : Open). refused (InCell (p .page .number) i (fa.Marked mark))) (held o i db e .opened),
-)
+  pub guarded-again : {l : Located} → Guarded o i db l → locatedIn o i db ≡ shown l
+  guarded-again {l} g = leaf-in (ap isLeafTable (g .leaf)) ∙ ap (guardedBy i) (g .located) ∙ ap (unmarked i l) (g .clear)
 
 -- A CELL OF A PAGE
 

@@ -1,11 +1,4 @@
-pub mod Values
-pub mod Pages
 pub mod Guard
-pub mod Cells
-pub mod Rows
-pub mod Columns
-pub mod Agrees
 pub mod Along
-pub mod Differ
-pub mod Each
 pub mod Marked
+pub mod Calls

@@ -1,34 +1,17 @@
--- A cell that the code found: the cell that is located, and its mark.
+-- The mark of a cell that the code found: that of the cell which is located.
 use Prim.Native.Nat.{ℕ, _≤_}
-use mathlib.Core.Path.{_≡_, refl, ap, subst}
+use mathlib.Core.Path.{_≡_, ap, subst}
 use mathlib.Core.List.{List}
 use native.Mathlib.Omega.{arith}
 use lib.ListN.{length}
-use Rattle.laws.proofs.Never.{never}
-use Rattle.answers.specs.declared.Refusal.{Refusal}
-use Rattle.answers.specs.Answer.{Answer, refused, shown}
-use Rattle.cell.specs.Cell as cell
 use Rattle.columns.specs.Columns.{typesAt}
 use Rattle.columns.proofs.Opened.{cursor-types}
 use Rattle.marks.specs.Marks.{lowest, markOf}
 use Rattle.cells.specs.Located.{Located}
 use Rattle.row.specs.declared.FoundCell.{FoundCell}
-use Rattle.row.specs.declared.FoundAnswer.the-variants as fo
-use Rattle.row.specs.Found.{payloadFrom, cursorIn, foundBy}
+use Rattle.row.specs.Found.{payloadFrom}
 use Rattle.row.proofs.Placed.{Placed}
-
--- a located cell as the code has it
-abbrev pub foundCell : Located → FoundCell
-foundCell l = record { page = l .opened .page; cell = cell.told (l .opened .page .reading) (l .cell); cursor = cursorIn l }
-
-pub record Told (x : Answer Refusal Located) (f : FoundCell) : Type 0 where
-  pub l : Located
-  pub is : x ≡ shown l
-  pub same : foundCell l ≡ f
-
-pub told : (x : Answer Refusal Located) {f : FoundCell} → foundBy x ≡ fo.Shown f → Told x f
-told (refused refusal) e = never cc
-told (shown l) e = record { l = l; is = refl; same = cc }
+use Rattle.row.proofs.Told.{foundCell}
 
 module _ (l : Located) (db : List ℕ) {f : FoundCell} (same : foundCell l ≡ f) (p : Placed l db) where
   -- its types lie in the bytes

@@ -1,3 +1,1 @@
 pub mod Guarded
-pub mod Shows
-pub mod Agreement

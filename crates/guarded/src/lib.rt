@@ -14,7 +14,7 @@ ghost use Rattle.guarded.specs.Guarded.{isLeafTable, openOf, locatedIn, 
 use answers::Fault;
 use answers::Reason;
 use answers::Refusal;
-use cell::Kind;
+use kinds::Kind;
 use marks::Marking;
 use page::Open;
 use page::OpenAnswer;

@@ -2,16 +2,15 @@
 -- lengthens them by one and takes one place off the rest (`filled-next`); the table's length stays (`filled-length`).
 use mathlib.Core.Path.{_≡_, refl, sym, _∙_, ap, subst}
 use Prim.Native.Nat.{ℕ, zero, suc, _+_, _-_, _<_, _≤_}
-use native.Mathlib.Nat.{not-suc-le-zero, add-suc, add-zero}
+use native.Mathlib.Nat.{not-suc-le-zero}
+use native.Mathlib.Numerals.{add-one}
 use native.Mathlib.Omega.{arith}
 use mathlib.Core.List.{List, [], _∷_, _++_}
 use lib.ListN.{length, set, drop, length-append, length-drop}
 use Rattle.page.specs.declared.OpenAnswer.{OpenAnswer}
 use Rattle.table.specs.declared.Entry.{Entry}
 use Rattle.table.specs.Entry.{entryFor, entries, filled}
-
-one-more : (n : ℕ) → n + 1 ≡ suc n
-one-more n = add-suc n zero ∙ ap suc (add-zero n)
+use Rattle.table.proofs.Laws.{entries-none, entries-next, entries-length}
 
 -- a store to the first place behind `front`
 stored-behind : (front : List Entry) (e : Entry) (rest : List Entry)
@@ -28,27 +27,18 @@ drop-next (suc n) (y ∷ ys) = drop-next n ys
 some-left : (n : ℕ) (ys : List Entry) → n < length ys → 0 < length (drop n ys)
 some-left n ys l = subst (λ (k : ℕ). 0 < k) (sym (length-drop n ys)) (omega (arith, l))
 
-entries-length : (opening : OpenAnswer) (db : List ℕ) (n : ℕ) → length (entries opening db n) ≡ n
-unfolding entries
-entries-length opening db zero = refl
-entries-length opening db (suc n) =
-    length-append (entries opening db n) (entryFor opening db n ∷ [])
-    ∙ ap (λ (k : ℕ). k + 1) (entries-length opening db n)
-    ∙ one-more n
-
 pub filled-0 : (opening : OpenAnswer) (db : List ℕ) (ys : List Entry) → filled opening db 0 ys ≡ ys
-unfolding entries
-filled-0 opening db ys = refl
+filled-0 opening db ys = ap (λ (zs : List Entry). zs ++ ys) (entries-none opening db)
 
 -- one more store to a table that is filled so far
 pub filled-next : (opening : OpenAnswer) (db : List ℕ) (n : ℕ) (ys : List Entry)
     → n < length ys → set (filled opening db n ys) n (entryFor opening db n) ≡ filled opening db (n + 1) ys
-unfolding entries
 filled-next opening db n ys l =
     ap (λ (k : ℕ). set (filled opening db n ys) k (entryFor opening db n)) (sym (entries-length opening db n))
     ∙ stored-behind (entries opening db n) (entryFor opening db n) (drop n ys) (some-left n ys l)
     ∙ ap (λ (zs : List Entry). (entries opening db n ++ entryFor opening db n ∷ []) ++ zs) (drop-next n ys)
-    ∙ ap (λ (k : ℕ). filled opening db k ys) (sym (one-more n))
+    ∙ ap (λ (zs : List Entry). zs ++ drop (suc n) ys) (sym (entries-next opening db n))
+    ∙ ap (λ (k : ℕ). filled opening db k ys) (sym (add-one n))
 
 pub filled-length : (opening : OpenAnswer) (db : List ℕ) (n : ℕ) (ys : List Entry)
     → n ≤ length ys → length (filled opening db n ys) ≡ length ys

@@ -12,7 +12,7 @@ mod old;
 
 use answers::Flaw;
 use answers::Refusal;
-use cell::Kind;
+use kinds::Kind;
 use libc::STDIN_FILENO;
 use page::OpenAnswer;
 use place::ShapeAnswer;

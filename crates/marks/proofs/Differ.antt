@@ -22,7 +22,7 @@ use Rattle.record.specs.Types.{Types, done, broken, column, typesOf, count, nth
 use Rattle.record.proofs.Laws.{types-next, types-broken, nth-next}
 use Rattle.record.proofs.Spelt.{Spelt, ended, stopped, further, spelt}
 use Rattle.record.proofs.Accepted.{Accepted, accepted}
-use Rattle.cell.specs.declared.Kind.the-variants.{LeafTable}
+use Rattle.kinds.specs.declared.Kind.the-variants.{LeafTable}
 use Rattle.cell.specs.Cell.{Cell, cellOf}
 use Rattle.cell.proofs.Recorded.{recordWith}
 use Rattle.cell.proofs.Leaf.{Leaf, leaf}

@@ -8,7 +8,7 @@ use native.Mathlib.Omega.{arith}
 use lib.Dec.{eqb}
 use lib.ListN.{length, take, drop, length-append}
 use lib.Seq.{take-append-le, take-length}
-use borrow.Author.Tests.{ltb-false, eqb-true, not-false}
+use borrow.Author.Tests.{le-ltb, ltb-false, eqb-true, not-false}
 use Rattle.laws.specs.Pick.{pick}
 use Rattle.laws.proofs.Never.{never}
 use Rattle.answers.specs.declared.Mark.the-variants as ma
@@ -25,7 +25,7 @@ use Rattle.record.proofs.Laws.{types-nil, types-next, types-broken}
 use Rattle.record.proofs.Spelt.{Spelt, ended, stopped, further, spelt}
 use Rattle.record.proofs.Room.{more-room, accepted-ends}
 use Rattle.record.proofs.Accepted.{Accepted, accepted, record-again}
-use Rattle.cell.specs.declared.Kind.the-variants.{LeafTable}
+use Rattle.kinds.specs.declared.Kind.the-variants.{LeafTable}
 use Rattle.cell.specs.Cell.{Cell, cellOf}
 use Rattle.cell.proofs.Recorded.{recordWith}
 use Rattle.cell.proofs.Leaf.{leaf, leaf-again}
@@ -69,6 +69,11 @@ clear {np} {nv} {own} {ts} e = go (longVarint np nv own ts) (not (eqb own 1)) (s
           ones = k;
           empties = l;
         }
+
+pub clear-again : {np nv own : ℕ} {ts : Types} → Unmarked np nv own ts → lowest np nv own ts ≡ Clear
+unfolding lowest
+clear-again {np} {nv} {own} {ts} u =
+    rw (le-ltb 5 np (u .size), le-ltb 5 nv (u .row), u .narrow, u .types, u .ones, u .empties)
 
 -- TYPES, where none takes more than five bytes
 

@@ -5,8 +5,8 @@ use native.Mathlib.Omega.{arith}
 use Rattle.laws.proofs.Never.{never}
 use Rattle.answers.specs.declared.Refusal.{Refusal}
 use Rattle.answers.specs.Answer.{Answer, refused, shown}
-use Rattle.cell.specs.declared.Kind.{Kind}
-use Rattle.cell.specs.declared.Kind.the-variants.{InteriorIndex, InteriorTable, LeafIndex, LeafTable}
+use Rattle.kinds.specs.declared.Kind.{Kind}
+use Rattle.kinds.specs.declared.Kind.the-variants.{InteriorIndex, InteriorTable, LeafIndex, LeafTable}
 use Rattle.page.specs.declared.Site.{Site}
 use Rattle.page.specs.declared.SiteAnswer.the-variants as sa
 use Rattle.page.specs.declared.Open.{Open}

@@ -1,6 +1,6 @@
 -- A page that is opened, taken apart step by step and put together again: its shape, its place, its kind, its pointers.
 use Prim.Native.Nat.{ℕ, _+_, _≤_}
-use mathlib.Core.Path.{_≡_, refl, sym, _∙_}
+use mathlib.Core.Path.{_≡_, refl, sym}
 use mathlib.Core.List.{List}
 use mathlib.Core.Bool.{Bool, true, false}
 use lib.Dec.{ltb}
@@ -103,6 +103,10 @@ unfolding openFrom
 open-again s db h = rw (le-ltb (s .end) (pointersEnd (s .from) (s .kind) (cellsOf s db)) h)
 
 -- BOTH
+
+pub open-site : (page : Page) (db : List ℕ) {s : Site} → siteOf page db ≡ shown s → openOf page db ≡ openFrom s db
+unfolding openOf
+open-site page db e = rw e
 
 pub record Steps (page : Page) (db : List ℕ) (o : Open) : Type 0 where
   pub site : Site

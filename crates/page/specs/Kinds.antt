@@ -7,8 +7,8 @@ use lib.Dec.{ltb, eqb}
 use lib.ListN.{length, drop, getD}
 use Rattle.laws.specs.Pick.{pick}
 use Rattle.fields.specs.Fields.{unsigned}
-use Rattle.cell.specs.declared.Kind.{Kind}
-use Rattle.cell.specs.declared.Kind.the-variants.{InteriorIndex, InteriorTable, LeafIndex, LeafTable}
+use Rattle.kinds.specs.declared.Kind.{Kind}
+use Rattle.kinds.specs.declared.Kind.the-variants.{InteriorIndex, InteriorTable, LeafIndex, LeafTable}
 use Rattle.page.specs.declared.KindAnswer.{KindAnswer}
 use Rattle.page.specs.declared.KindAnswer.the-variants.{Known, Unknown}
 

@@ -1,5 +1,6 @@
 // Parts of the bytes that a caller lends, whatever place and length are asked for: what does not lie there is left out.
 ghost use mathlib.Core.Path.{_≡_};
+ghost use Prim.Native.Nat.{_-_};
 ghost use lib.ListN.{take, drop};
 
 // The bytes from `at` on.
@@ -21,4 +22,11 @@ pub fn part(s: &[u8], at: usize, len: usize) -> &[u8]
         return rest;
     }
     &rest[0..len]
+}
+
+// a - b, or 0 where b is larger: how much is left.
+pub fn less(a: u64, b: u64) -> u64
+    ensures { λ r. ⌜ r ≡ a - b ⌝ }
+{
+    if a < b { 0 } else { a - b }
 }

@@ -1,6 +1,6 @@
 -- What callers cite of pages: that one which is there lies in the bytes, and how long it is; and what a shape says.
 use Prim.Native.Nat.{ℕ, suc, _+_, _-_, _*_, _^_, _≤_, _<_}
-use mathlib.Core.Path.{_≡_, refl, sym, _∙_}
+use mathlib.Core.Path.{_≡_, refl}
 use mathlib.Core.List.{List}
 use mathlib.Core.Bool.{Bool, true, false}
 use native.Mathlib.Nat.{add-mul, mul-le-mul-right}
@@ -18,14 +18,14 @@ use Rattle.answers.specs.declared.Checked.the-variants.{Passed}
 use Rattle.answers.specs.Answer.{Answer, refused, shown}
 use Rattle.header.specs.declared.SizesAnswer.{SizesAnswer}
 use Rattle.header.specs.declared.SizesAnswer.the-variants as si
-use Rattle.header.specs.Header.{pageSize, end, checkedOf, sizesOf, sizesIn}
+use Rattle.header.specs.Header.{pageSize, end, checkedOf, sizesOf}
 use Rattle.header.proofs.Laws.{sizes-shown, sizes-passed, usable-below}
 use Rattle.place.specs.declared.Page.{Page}
 use Rattle.place.specs.declared.Place.{Place}
 use Rattle.place.specs.declared.Place.the-variants.{At, Absent}
 use Rattle.place.specs.declared.Shape.{Shape}
 use Rattle.place.specs.declared.ShapeAnswer.the-variants as sh
-use Rattle.place.specs.Place.{headerAt, placeFrom, placeBy, placeOf, pageAt}
+use Rattle.place.specs.Place.{oldPage, filePage, headerAt, placeFrom, placeBy, placeOf, pageAt}
 use Rattle.place.specs.Shape.{wholePages, shapeBy, shapeOf, shapeAnswer}
 
 -- PLACES
@@ -60,6 +60,15 @@ by-lies file bytes size number = go (eqb number 0)
 pub place-lies : (page : Page) (bytes size : ℕ) → Lies size bytes (placeOf page bytes size)
 unfolding placeOf
 place-lies page bytes size = by-lies (page .reading) bytes size (page .number)
+
+-- a page of the file reading stands where the old one has it, counted from 0: there is no page 0
+pub old-place : (n bytes size : ℕ) {at from : ℕ} → placeOf (filePage n) bytes size ≡ At at from → placeOf (oldPage (n - 1)) bytes size ≡ At at from
+unfolding placeOf
+old-place n bytes size {at} {from} e = go (eqb n 0) e
+  where
+    go : (b : Bool) → pick b Absent (placeFrom bytes size (n - 1)) ≡ At at from → placeFrom bytes size (n - 1) ≡ At at from
+    go true d = never cc
+    go false d = d
 
 -- an index and a size of 32 bits each
 pub product-fits : {index size : ℕ} → index < 2 ^ 32 → size < 2 ^ 32 → index * size + size < 2 ^ 64

@@ -17,7 +17,7 @@ use Rattle.varint.specs.Varint.{varintOf}
 use Rattle.varint.proofs.Laws.{length-bounds}
 use Rattle.serial.specs.declared.Width.the-variants as wi
 use Rattle.serial.specs.Serial.{widthOf}
-use Rattle.record.specs.declared.Laid.the-variants.{Reserved, Passes}
+use Rattle.record.specs.declared.Laid.the-variants.{Ends, Reserved, Passes}
 use Rattle.record.specs.Types.{Types, done, broken, column, typed, types, typesOf, count, nthType, walk}
 
 -- TYPES
@@ -91,6 +91,10 @@ pub nth-next : (k : ℕ) (t : Number) (rest : Types) → nthType (suc k) (column
 nth-next k t rest = let e : suc k - 1 ≡ k = omega arith in rw (ne-eqb (suc k) 0 (λ z. omega arith), e)
 
 -- VALUES
+
+pub walk-done : (col left : ℕ) → walk col left done ≡ Ends col left
+unfolding walk
+walk-done col left = refl
 
 module _ (col left : ℕ) (t : Number) (rest : Types) where
   pub walk-reserved : widthOf (t .value) ≡ wi.Reserved → walk col left (column t rest) ≡ Reserved col

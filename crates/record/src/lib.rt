@@ -190,7 +190,7 @@ fn headless_fault(reading: Reading) -> Fault
 }
 
 // How many of its own bytes a header size counts.
-pub fn counted_of(reading: Reading, own: usize) -> u64
+fn counted_of(reading: Reading, own: usize) -> u64
     ensures { λ r. ⌜ r ≡ counted reading own ⌝ }
 {
     match reading {

@@ -1,3 +1,3 @@
 pub mod Placed
 pub mod Told
-pub mod Columns
+pub mod Along

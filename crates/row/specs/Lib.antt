@@ -3,4 +3,3 @@ pub mod Row
 pub mod Column
 pub mod Old
 pub mod File
-pub mod Columns

@@ -3,7 +3,7 @@
 use crate::pages::pages;
 use crate::telling::Telling;
 use answers::Refusal;
-use cell::Kind;
+use kinds::Kind;
 use page::OpenAnswer;
 use page::Site;
 use page::SiteAnswer;

@@ -1,13 +1,14 @@
 -- What callers cite of a page call: the check of the cells, one cell after the other; that the cells of an accepted page fit in
--- its table; and that each of them is located.
+-- its table; that each of them is located; and the entries, one after the other.
 use Prim.Native.Nat.{ℕ, zero, suc, _+_, _-_, _≤_, _<_, zero-le}
-use mathlib.Core.Path.{_≡_, refl, ap}
-use mathlib.Core.List.{List}
+use mathlib.Core.Path.{_≡_, refl, ap, _∙_}
+use mathlib.Core.List.{List, [], _∷_, _++_}
 use mathlib.Core.Bool.{Bool, true, false}
 use native.Mathlib.Omega.{arith}
 use native.Mathlib.Nat.{add-zero}
+use native.Mathlib.Numerals.{add-one}
 use lib.Dec.{ltb}
-use lib.ListN.{length, drop}
+use lib.ListN.{length, drop, length-append}
 use borrow.Author.Tests.{ltb-false}
 use Rattle.laws.specs.Pick.{pick}
 use Rattle.laws.proofs.Never.{never}
@@ -27,6 +28,7 @@ use Rattle.table.specs.declared.CellsAnswer.the-variants as ce
 use Rattle.table.specs.declared.Head.{Head}
 use Rattle.table.specs.declared.PageAnswer.the-variants as pa
 use Rattle.table.specs.Head.{headOf}
+use Rattle.table.specs.Entry.{entryFor, entries}
 use Rattle.table.specs.Page.{cellsFrom, headBy, pageIn, pageAnswer, pageFor, pageOf, written}
 
 -- THE CHECK OF THE CELLS
@@ -135,3 +137,21 @@ page-cell page room i db {head} e b = go (openOf page db) refl e
         let z : 0 + i ≡ i = omega arith in
         let c = rw z at (each o db 0 (o .cells) (a .sound) i (omega (arith, a .cells))) in
         record { l = c .l; steps = record { o = o; first = q; second = c .is } }
+
+-- ENTRIES
+
+module _ (opening : OpenAnswer) (db : List ℕ) where
+  pub entries-none : entries opening db 0 ≡ []
+  unfolding entries
+  entries-none = refl
+
+  pub entries-next : (n : ℕ) → entries opening db (suc n) ≡ entries opening db n ++ entryFor opening db n ∷ []
+  unfolding entries
+  entries-next n = refl
+
+  pub entries-length : (n : ℕ) → length (entries opening db n) ≡ n
+  entries-length zero = ap length entries-none
+  entries-length (suc n) =
+      ap length (entries-next n) ∙ length-append (entries opening db n) (entryFor opening db n ∷ [])
+      ∙ ap (λ (k : ℕ). k + 1) (entries-length n)
+      ∙ add-one n

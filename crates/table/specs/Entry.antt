@@ -3,7 +3,7 @@ use Prim.Native.Nat.{ℕ, zero, suc}
 use mathlib.Core.List.{List, [], _∷_, _++_}
 use lib.IntN.{pos}
 use lib.ListN.{drop}
-use Rattle.cell.specs.Kind.{kindByte}
+use Rattle.kinds.specs.Kind.{kindByte}
 use Rattle.page.specs.declared.OpenAnswer.{OpenAnswer}
 use Rattle.page.specs.declared.OpenAnswer.the-variants as oa
 use Rattle.cells.specs.declared.LocatedAnswer.{LocatedAnswer}

@@ -6,7 +6,7 @@ use lib.Dec.{eqb}
 use lib.ListN.{drop, getD}
 use Rattle.laws.specs.Pick.{pick}
 use Rattle.fields.specs.Fields.{unsigned}
-use Rattle.cell.specs.Kind.{kindByte, interior}
+use Rattle.kinds.specs.Kind.{kindByte, interior}
 use Rattle.page.specs.declared.Open.{Open}
 use Rattle.table.specs.declared.Head.{Head}
 

@@ -20,16 +20,17 @@ use Rattle.record.specs.Record.{counted, judged, fitted}
 use Rattle.record.proofs.Count.{fits-count}
 use Rattle.record.proofs.Stages.{fit-laid, judged-file}
 use Rattle.record.proofs.Accepted.{accepted, record-again}
-use Rattle.cell.specs.declared.Kind.the-variants.{LeafTable}
+use Rattle.kinds.specs.declared.Kind.the-variants.{LeafTable}
 use Rattle.cell.specs.declared.Payload.the-variants as pa
-use Rattle.cell.specs.Kind.{mostWhole}
+use Rattle.kinds.specs.Kind.{mostWhole}
 use Rattle.cell.specs.Cell.{payloadIn}
 use Rattle.cell.proofs.Inside.{inside}
 use Rattle.cell.proofs.Leaf.{leafNumbers, leaf-again}
-use Rattle.usual.specs.declared.Layout.the-variants as ly
+use Rattle.layout.specs.declared.Layout.the-variants as ly
 use Rattle.usual.specs.declared.Span.{Span}
-use Rattle.usual.specs.Short.{Lying, Head, Start}
-use Rattle.usual.proofs.Types.{clear-clean}
+use Rattle.layout.specs.Lying.{Lying}
+use Rattle.usual.specs.Short.{Head, Start}
+use Rattle.layout.proofs.Types.{clear-clean}
 
 -- a header size counts its one byte, in either reading
 counted-one : (r : Reading) → counted r 1 ≡ 1

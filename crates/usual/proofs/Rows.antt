@@ -12,7 +12,7 @@ use Rattle.reading.specs.declared.Reading.the-variants.{Old as old, File as fil
 use Rattle.answers.specs.Answer.{shown}
 use Rattle.record.specs.Types.{count}
 use Rattle.record.specs.Record.{valuesAt}
-use Rattle.cell.specs.declared.Kind.the-variants.{LeafTable}
+use Rattle.kinds.specs.declared.Kind.the-variants.{LeafTable}
 use Rattle.cell.specs.Cell.{cellOf}
 use Rattle.columns.specs.declared.Cursor.{Cursor}
 use Rattle.place.specs.Place.{pageAt}
@@ -26,7 +26,7 @@ use Rattle.cells.specs.Located as cells
 use Rattle.cells.specs.Located.{Located}
 use Rattle.cells.proofs.Laws.{held-again}
 use Rattle.row.specs.Found.{foundBy}
-use Rattle.guarded.proofs.Guard.{every-open-guarded}
+use Rattle.guarded.proofs.Guard.{guarded-again}
 use Rattle.usual.specs.declared.RowAnswer.the-variants.{Shown}
 use Rattle.usual.specs.declared.Span.{Span}
 use Rattle.usual.specs.Usual.{foundIn, rowBy, rowIn}
@@ -53,6 +53,10 @@ module _ (o : Open) (db : List ℕ) (kind : o .kind ≡ LeafTable) (lies : liesI
   pointer-is i = ap (λ k. unsigned 2 (drop (pointersAt (o .from) k + 2 * i) (pageAt (o .at) (o .size) db))) (sym kind)
 
 -- ITS ROWS
+
+pub row-found : (g : Bool) (o : Open) (i : ℕ) (db : List ℕ) → rowIn g o i db ≡ rowBy (foundIn g o i db)
+unfolding rowIn
+row-found g o i db = refl
 
 -- behind the pointers and before the end, no reading finds a pointer outside
 not-outside : (r : Reading) (o : Open) (p : ℕ) → o .from ≤ p → pointersEnd (o .from) (o .kind) (o .cells) ≤ p → p < o .end → outside r o p ≡ false
@@ -99,9 +103,8 @@ module _ (g : Bool) (o : Open) (i : ℕ) (db : List ℕ) (kind : o .kind ≡ Lea
         })
 
     found : (h : Bool) → g ≡ h → foundIn h o i db ≡ foundBy (shown l)
-    found true e = ap foundBy (every-open-guarded o i db .1 l kind located (b .clean e))
+    found true e = ap foundBy (guarded-again o i db (record { leaf = kind; located = located; clear = b .clean e }))
     found false e = ap foundBy located
 
     pub says : rowIn g o i db ≡ Shown (x .number) (x .columns) (cursor o p x)
-    unfolding rowIn
-    says = rw (found g refl) (row-told x l (b .number) (b .columns) (b .from) (b .payload) (b .own) (b .values))
+    says = row-found g o i db ∙ rw (found g refl) (row-told x l (b .number) (b .columns) (b .from) (b .payload) (b .own) (b .values))

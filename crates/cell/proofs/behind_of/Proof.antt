@@ -5,11 +5,10 @@ use mathlib.Core.Path.{_≡_, sym, _∙_}
 use native.Mathlib.Nat.{sub-zero}
 use lib.ListN.{length, take, drop}
 use denote.Ref.{now}
-use Rattle.laws.proofs.Parts.{tail}
 use Rattle.record.specs.Record.{recordOf}
 use Rattle.record.proofs.Kept.{Kept, faulted, kept}
+use Rattle.kinds.specs.Kind.{hasClosing, mostWhole}
 use Rattle.cell.specs.declared.Payload.the-variants as pa
-use Rattle.cell.specs.Kind.{hasClosing, mostWhole}
 use Rattle.cell.specs.Numbers.{numberIn}
 use Rattle.cell.specs.Cell.{payloadIn, behind}
 use Rattle.cell.proofs.Laws.{payload-within}
@@ -26,11 +25,11 @@ recorded : (c : tie.After-known-told4) → let a = c .before .before .before .be
     Kept (a .reading) (recordOf (a .reading) (take (c .before .before .before .before .before .before .payload2 .given .0 .0) (now (a .s)))) (c .before .shown2 .given .0 .0)
 recorded c = kept _ _ (sym (rw sub-zero at (c .before .before .before .record-of .ensures)) ∙ c .before .shown2 .given .1)
 
-closing : (c : tie.After-number-in) → let k = c .before .before .before .before .before in
+closing : (c : tie.After-closing-in) → let k = c .before .before in
     let a = k .before .before .before .before .before .before .before .before .before .before .before .before .args in
     let q = take (k .before .before .before .before .before .before .payload2 .given .0 .0) (now (a .s)) in
-    c .number-in .result ≡ numberIn (hasClosing (a .reading) (a .kind)) 5 (a .numbers .key) (drop (length q - k .before .shown2 .given .0 .0 .left) q)
-closing c = c .number-in .ensures ∙ rw (tail _ _, c .before .before .before .before .less .ensures, sub-zero, c .before .has-closing .ensures)
+    c .closing-in .result ≡ numberIn (hasClosing (a .reading) (a .kind)) 5 (a .numbers .key) (drop (length q - k .before .shown2 .given .0 .0 .left) q)
+closing c = rw sub-zero at (c .closing-in .ensures)
 
 most-whole-requires : tie.Need-most-whole-requires
 most-whole-requires c κs = search needs
@@ -73,23 +72,8 @@ returns-2 c =
 enum-known-shown-2 : tie.Need-enum-known-shown-2
 enum-known-shown-2 c = search needs
 
-less-requires : tie.Need-less-requires
-less-requires c κs = search needs
-
-sub-number-in : tie.Need-sub-number-in
-sub-number-in c = search needs
-
-part-number-in-start : tie.Need-part-number-in-start
-part-number-in-start c = search needs
-
-part-number-in-end : tie.Need-part-number-in-end
-part-number-in-end c = search needs
-
-has-closing-requires : tie.Need-has-closing-requires
-has-closing-requires c κs = search needs
-
-number-in-requires : tie.Need-number-in-requires
-number-in-requires c κs = search needs
+closing-in-requires : tie.Need-closing-in-requires
+closing-in-requires c κs = search needs
 
 enum-known-row : tie.Need-enum-known-row
 enum-known-row c = search needs
@@ -100,13 +84,13 @@ enum-told c = search needs
 returns-3 : tie.Need-returns-3
 unfolding behind
 returns-3 c =
-    let k = c .before .before .before .before .before .before .before in
+    let k = c .before .before .before .before in
     rw (paid (k .before .before .before .before .before), recorded k .is, sym (closing (c .before .before)) ∙ c .enum-told .given .1)
 
 returns-4 : tie.Need-returns-4
 unfolding behind
 returns-4 c =
-    let k = c .before .before .before .before .before .before .before .before .before in
+    let k = c .before .before .before .before .before .before in
     let x = recorded k in
     rw (paid (k .before .before .before .before .before), x .is, sym (closing (c .before .before .before .before)) ∙ c .before .before .row .given .1, x .counted, x .begin)
 
@@ -126,12 +110,7 @@ behind-of-spec =
     enum-known-shown
     returns-2
     enum-known-shown-2
-    less-requires
-    sub-number-in
-    part-number-in-start
-    part-number-in-end
-    has-closing-requires
-    number-in-requires
+    closing-in-requires
     enum-known-row
     enum-told
     returns-3

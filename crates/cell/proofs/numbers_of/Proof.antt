@@ -6,7 +6,7 @@ use lib.ListN.{length}
 use denote.Ref.{now}
 use Rattle.laws.proofs.Parts.{tail}
 use Rattle.varint.specs.declared.Varint.the-variants as vi
-use Rattle.cell.specs.Kind.{childBytes}
+use Rattle.kinds.specs.Kind.{childBytes}
 use Rattle.cell.specs.Numbers.{numbersAnswer}
 use Rattle.cell.proofs.Laws.{sizeIn, keyBehind, child-cut, size-cut, key-cut, numbers-read, size-ends, key-ends}
 use borrow.Author.Needs.{needs}

@@ -3,8 +3,8 @@ use mathlib.Core.Path.{_≡_, refl, sym, ap, _∙_}
 use denote.Ref.{now}
 use lib.Dec.{eqb}
 use Rattle.usual.specs.declared.RowAnswer.the-variants.{Shown}
-use Rattle.exports.specs.Pages.{openOf}
-use Rattle.exports.specs.Rows.{rowOf}
+use Rattle.turns.specs.Pages.{openOf}
+use Rattle.turns.specs.Rows.{rowOf}
 use Rattle.exports.specs.Calls.{rowIn}
 use Rattle.exports.proofs.Found.{found-whole}
 use borrow.Author.Needs.{needs}

@@ -11,11 +11,11 @@ use Rattle.cells.specs.Located as cells
 use Rattle.cells.proofs.Laws.{held}
 use Rattle.row.specs.declared.FoundAnswer.the-variants as fo
 use Rattle.row.specs.Found.{foundBy}
-use Rattle.row.proofs.Told.{told-refused}
+use Rattle.row.proofs.Told.{Told, told, told-refused}
 use Rattle.row.proofs.Placed.{placed-in}
 use Rattle.guarded.specs.Guarded.{unmarked, locatedIn}
 use Rattle.guarded.proofs.Guard.{guardedBy, other-in, leaf-in}
-use Rattle.guarded.proofs.Marked.{Told, told, types-within, mark-is}
+use Rattle.guarded.proofs.Marked.{types-within, mark-is}
 use borrow.Author.Needs.{needs}
 use Rattle.guarded.proofs.found_in.Statement.{statement}
 use Rattle.guarded.proofs.found_in.Tie as tie

@@ -7,7 +7,7 @@ use native.Mathlib.Omega.{arith}
 use lib.ListN.{length, take, drop}
 use denote.Ref.{now}
 use Rattle.laws.proofs.Parts.{tail}
-use Rattle.cell.specs.declared.Kind.the-variants.{LeafTable}
+use Rattle.kinds.specs.declared.Kind.the-variants.{LeafTable}
 use Rattle.place.specs.Place.{pageAt}
 use Rattle.page.specs.declared.Open.{Open}
 use Rattle.page.specs.Kinds.{pointersEnd}

@@ -11,7 +11,8 @@ use Rattle.record.specs.declared.Fit.the-variants.{Fits}
 use Rattle.record.specs.Types.{Types, typesOf}
 use Rattle.record.specs.Record.{judged}
 use Rattle.record.proofs.Stages.{judged-old}
-use Rattle.usual.specs.Short.{Lying, Head}
+use Rattle.layout.specs.Lying.{Lying}
+use Rattle.usual.specs.Short.{Head}
 use Rattle.usual.proofs.Records.{filled, head}
 use borrow.Author.Needs.{needs}
 use Rattle.usual.proofs.header_of.Statement.{statement}

@@ -1,0 +1,10 @@
+pub mod Values
+pub mod Pages
+pub mod Every
+pub mod Cells
+pub mod Rows
+pub mod Columns
+pub mod Agrees
+pub mod Along
+pub mod Differ
+pub mod Each

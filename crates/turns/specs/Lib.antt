@@ -1,0 +1,4 @@
+pub mod Refusals
+pub mod Pages
+pub mod Rows
+pub mod Shown
