@@ -15,6 +15,7 @@ use answers::Refusal;
 use cell::Cell;
 use cell::CellAnswer;
 use fields::be_u16;
+use kinds::Kind;
 use page::Open;
 use page::OpenAnswer;
 use place::Page;
@@ -37,7 +38,7 @@ fn pointer_at(page: &[u8], opened: Open, i: usize) -> u32
     requires { ⌜ Fitting opened (now page) × (i < opened .cells) ⌝ }
     ensures { λ r. ⌜ r ≡ pointerAt opened i (now (page .entry)) ⌝ }
 {
-    let kind = opened.kind;
+    let kind: Kind = opened.kind;
     let at = opened.from + page::head_size(kind) + 2 * i;
     be_u16(&page[at..]) as u32
 }

@@ -14,6 +14,7 @@ ghost use Rattle.guarded.specs.Guarded.{isLeafTable, openOf, locatedIn, 
 use answers::Fault;
 use answers::Reason;
 use answers::Refusal;
+use cell::Cell;
 use kinds::Kind;
 use marks::Marking;
 use page::Open;
@@ -64,7 +65,7 @@ fn marking(db: &[u8], found: FoundCell) -> Marking
     requires { ⌜ (found .cursor .at ≤ found .cursor .stop) × (found .cursor .stop ≤ length (now db)) ⌝ }
     ensures { λ r. ⌜ r ≡ lowest (found .cell .numbers .size .length) (found .cell .numbers .key .length) (found .cell .header .length) (typesAt (found .cursor) (now (db .entry))) ⌝ }
 {
-    let cell = found.cell;
+    let cell: Cell = found.cell;
     let numbers = cell.numbers;
     let size: Number = numbers.size;
     let key: Number = numbers.key;

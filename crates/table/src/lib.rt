@@ -11,6 +11,7 @@ ghost use Rattle.table.specs.Entry.{none, entryBy, entryFor};
 ghost use Rattle.table.specs.Page.{cellsFrom, pageIn, pageAnswer, pageFor, pageOf, written};
 use answers::Reason;
 use answers::Refusal;
+use cell::Cell;
 use cells::LocatedAnswer;
 use fields::be_u16;
 use fields::be_u32;
@@ -203,7 +204,7 @@ fn entry_of(located: LocatedAnswer) -> Entry
         LocatedAnswer::Shown(found) => {
             let opened = found.opened;
             let kind = opened.kind;
-            let cell = found.cell;
+            let cell: Cell = found.cell;
             let numbers = cell.numbers;
             let size: Number = numbers.size;
             let header: Number = cell.header;

@@ -11,6 +11,7 @@ use answers::Refusal;
 use columns::Cursor;
 use reading::Reading;
 use row::FoundAnswer;
+use varint::Number;
 
 // CURSORS
 
@@ -72,8 +73,8 @@ pub fn cell_by(answer: FoundAnswer) -> Cell
             along: no_cursor(),
         },
         FoundAnswer::Shown(found) => {
-            let cell = found.cell;
-            let row = cell.row;
+            let cell: cell::Cell = found.cell;
+            let row: Number = cell.row;
             let cursor = found.cursor;
             Cell {
                 refused: no_refusal(),
