@@ -1,16 +1,20 @@
-/* ours old|file|guarded FILE PASSES: all values of all rows of all table leaves, PASSES times, by the calls for C.
+/* ours old|file|guarded|lent FILE PASSES: all values of all rows of all table leaves, PASSES times, by the calls for C.
  *
- * It prints what the last pass was shown; with no pass, it does everything but the work that is counted. */
+ * `lent` is the file reading with a gather buffer lent, so that rows that spill are shown too. It prints what the last pass
+ * was shown; with no pass, it does everything but the work that is counted. */
 #include <stdlib.h>
 #include <string.h>
 
 #include "shorgavel.h"
 #include "shown.h"
 
-/* A row comes by one call with all of its columns, up to so many; more places cost nothing where they are not filled. */
-enum { TABLE_LEAF = 13, PLACES = 64 };
+/* A row comes by one call with all of its columns, up to so many; more places cost nothing where they are not filled, and
+ * neither does more room. LENT is no reading's number. */
+enum { TABLE_LEAF = 13, PLACES = 64, ROOM = 65536, LENT = 3 };
 
 typedef uint8_t reading;
+
+static uint8_t gathered[ROOM];
 
 /* Each reading has a pass of its own, with its calls in it, so that no row asks which reading it is. */
 #define FOR_EACH_READING static inline __attribute__((always_inline))
@@ -23,7 +27,8 @@ static void fail(const char *why) {
 static reading named(const char *name) {
     if (strcmp(name, "old") == 0) return SHORGAVEL_OLD;
     if (strcmp(name, "file") == 0) return SHORGAVEL_FILE;
-    if (strcmp(name, "guarded") != 0) fail("the readings are old, file and guarded");
+    if (strcmp(name, "lent") == 0) return LENT;
+    if (strcmp(name, "guarded") != 0) fail("the readings are old, file, guarded and lent");
     return SHORGAVEL_GUARDED;
 }
 
@@ -87,10 +92,29 @@ FOR_EACH_READING shown pass(reading r, const uint8_t *db, size_t length, uint32_
     return s;
 }
 
+/* Where the payload spills, the places of a row's values count in the buffer. */
+static shown pass_lent(const uint8_t *db, size_t length, uint32_t pages) {
+    shown s = {0, 0, 0, 0};
+    shorgavel_value table[PLACES];
+    for (uint32_t page = 1; page <= pages; page++) {
+        shorgavel_opening o = shorgavel_open(db, length, SHORGAVEL_FILE, page);
+        if (o.refused.number != 0 || o.opened.kind != TABLE_LEAF) continue;
+        for (size_t i = 0; i < o.opened.cells; i++) {
+            shorgavel_lent_row lent =
+                shorgavel_row_lent(db, length, o.opened, i, table, SHORGAVEL_WORDS(PLACES), gathered, ROOM);
+            if (lent.row.refused.number != 0) continue;
+            if (lent.source) show_cell(SHORGAVEL_FILE, &s, gathered, ROOM, &lent.row, table);
+            else show_cell(SHORGAVEL_FILE, &s, db, length, &lent.row, table);
+        }
+    }
+    return s;
+}
+
 static shown pass_of(reading r, const uint8_t *db, size_t length, uint32_t pages) {
     switch (r) {
     case SHORGAVEL_OLD: return pass(SHORGAVEL_OLD, db, length, pages);
     case SHORGAVEL_FILE: return pass(SHORGAVEL_FILE, db, length, pages);
+    case LENT: return pass_lent(db, length, pages);
     default: return pass(SHORGAVEL_GUARDED, db, length, pages);
     }
 }
@@ -100,7 +124,7 @@ int main(int count, char **words) {
     reading r = named(words[1]);
     size_t length;
     uint8_t *db = load(words[2], &length);
-    shorgavel_pages_answer pages = shorgavel_pages(db, length, r);
+    shorgavel_pages_answer pages = shorgavel_pages(db, length, r == LENT ? SHORGAVEL_FILE : r);
     if (pages.refused.number != 0) fail("the header is refused");
     shown s = {0, 0, 0, 0};
     for (int left = atoi(words[3]); left > 0; left--) s = pass_of(r, db, length, (uint32_t)pages.count);

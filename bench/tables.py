@@ -3,13 +3,15 @@
 Each has one table, named gauge, at page size 4,096. Every value follows from the number of its row.
 
 All three readings show all rows, so that all do the same work: no value is 1 (serial type 9) or an empty text, header sizes
-take one byte, and every payload is whole on its page.
+take one byte, and every payload is whole on its page. But for notes, whose rows spill: the file reading alone shows them,
+with a gather buffer lent.
 """
 import os
 import sqlite3
 import sys
 
 GROWTH = (1_000, 5_000, 20_000, 50_000, 100_000)
+NOTE = 6_000
 STATES = ("idle", "lift", "drive", "charge")
 WIDE = 60
 
@@ -45,6 +47,11 @@ def text(n):
     return tuple(chr(97 + (n + i) % 26) * (200 + mixed(3 * n + i) % 701) for i in range(3))
 
 
+def notes(n):
+    """The second and a driver's note."""
+    return (1_760_000_000 + 30 * n, chr(97 + n % 26) * NOTE)
+
+
 def write(folder, name, rows, row):
     file = os.path.join(folder, name + ".db")
     if os.path.exists(file):
@@ -65,6 +72,7 @@ def main():
     write(folder, "wide", 2_000, wide)
     write(folder, "tiny", 20_000, tiny)
     write(folder, "text", 2_000, text)
+    write(folder, "notes", 2_000, notes)
 
 
 if __name__ == "__main__":

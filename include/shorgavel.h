@@ -4,7 +4,8 @@
  * shows a row only where the two agree. Pages count from 0 in the old reading and from 1 in the other two.
  *
  * A database is a pointer and its length in bytes; the pointer is not null, also where the length is 0. No call keeps it,
- * writes to it or allocates. Every call answers for every input, and what does not apply in an answer is 0.
+ * writes to it or allocates. Every call answers for every input, and what does not apply in an answer is 0. What a call is
+ * lent to write to, a table or a gather buffer, overlaps neither the database nor each other.
  *
  * Link with libexports.a, for x86-64.
  */
@@ -18,8 +19,8 @@
 extern "C" {
 #endif
 
-/* Why nothing is shown; number 0: nothing is refused. The cell is told for 12 to 18 and 21, the column for 15 and 16, and for 21
- * the mark, for which old and file need not agree.
+/* Why nothing is shown; number 0: nothing is refused. The cell is told for 12 to 18, 21, 23 and 24, the column for 15 and 16,
+ * and for 21 the mark, for which old and file need not agree.
  *
  *  1  the 16 opening bytes of a database are not there
  *  2  there are fewer than 100 bytes
@@ -38,11 +39,21 @@ extern "C" {
  * 15  the type is 10 or 11, which are reserved
  * 16  the value passes the end, or bytes are left over behind the last
  * 17  the varint behind the index record has no end
- * 18  the payload spills to overflow pages, which are not read
+ * 18  the payload spills to overflow pages, and no gather buffer is lent
  * 19  the lent table is shorter than the cell count
  * 20  there is no such cell, or no such column in it
  * 21  old and file need not agree
  * 22  there are over 1,073,741,824 bytes
+ * 23  the overflow chain leaves the file, ends early or goes on
+ * 24  the gather buffer is shorter than the payload
+ *
+ * The marks, of which the lowest is told:
+ *
+ *  1  a varint of over five bytes
+ *  2  a header size that is not in one byte
+ *  3  a type 9, a stored 1
+ *  4  a text or a blob of no bytes
+ *  5  a long note, whose payload spills
  */
 typedef struct {
     uint8_t number;
@@ -205,7 +216,7 @@ typedef struct {
     uint8_t width;   /* in the old reading, the bits of an integer's type: 8, 16, 32 or 64 */
     int64_t integer;
     uint64_t bits;   /* a real's 64 bits */
-    size_t at;       /* where the bytes of a text or a blob stand in the database */
+    size_t at;       /* where the bytes of a text or a blob stand in the database, or in a gather buffer */
     size_t len;      /* and how many there are */
 } shorgavel_value;
 
@@ -221,7 +232,7 @@ typedef struct {
     shorgavel_value value;
 } shorgavel_shown;
 
-/* The size of a table of so many places, as the three calls below are told it: in words of 64 bits. */
+/* The size of a table of so many places, as the calls below are told it: in words of 64 bits. */
 #define SHORGAVEL_WORDS(places) ((places) * (sizeof(shorgavel_value) / sizeof(int64_t)))
 
 /* A row with its values. */
@@ -261,6 +272,46 @@ shorgavel_shown shorgavel_file_value(const uint8_t *db, size_t length, uint32_t 
 
 /* The same if old and file agree on the cell. */
 shorgavel_shown shorgavel_guarded_value(const uint8_t *db, size_t length, uint32_t page, size_t cell, size_t column);
+
+/* LONG NOTES: a payload of P bytes that spills to overflow pages is refused (18) by the calls above. The calls below are lent a
+ * gather buffer, and put it together there: in the first P bytes; those behind them are left as they were.
+ *
+ * Where the payload is whole on its page, they answer what the calls above answer, and the buffer is left as it was. Where it
+ * spills, 18 is not given, and in its place stand, in this order: 24 where P is above the buffer's room; 13 where what is kept
+ * on the page, with the number of the first overflow page, passes the end of the cells; 23 where the chain is not sound. Up to
+ * here the buffer is left as it was. Then it holds the payload, which may still be refused: 14, 15 and 16, guarded's 21, and 20
+ * for the column. No chain that is sound has more bytes than the database, so a buffer of its length is never too short for one.
+ *
+ * The buffer's pointer is not null, also where there is no room. */
+
+/* A value, and the bytes that the place of a text or a blob counts in: 0 is the database's, 1 the buffer's. */
+typedef struct {
+    shorgavel_refused refused;
+    shorgavel_value value;
+    uint8_t source;
+} shorgavel_lent_value;
+
+/* A row, and the bytes that its cursor and the places of its values count in. */
+typedef struct {
+    shorgavel_row row;
+    uint8_t source;
+} shorgavel_lent_row;
+
+/* One column of a cell as the file reading has it, a long note too. */
+shorgavel_lent_value shorgavel_file_value_lent(const uint8_t *db, size_t length, uint32_t page, size_t cell, size_t column,
+                                               uint8_t *buffer, size_t room);
+
+/* The same if old and file agree on the cell. On one that spills they need not: it is refused (21) where file shows it, with
+ * mark 5 or a lower one. */
+shorgavel_lent_value shorgavel_guarded_value_lent(const uint8_t *db, size_t length, uint32_t page, size_t cell, size_t column,
+                                                  uint8_t *buffer, size_t room);
+
+/* shorgavel_row_in with a buffer lent, in the page's reading: old, which never looks at P, gathers nothing; file shows rows
+ * that spill too; guarded refuses them as above. A row that is whole comes by shorgavel_row_in at a lower cost: who reads many
+ * rows asks for each there, and here for those that are refused 18. Where the source is 1, the values that the table has no places for come by
+ * shorgavel_file_values from the cursor on, with the buffer and its room in place of the database and its length. */
+shorgavel_lent_row shorgavel_row_lent(const uint8_t *db, size_t length, shorgavel_opened page, size_t cell,
+                                      shorgavel_value *table, size_t words, uint8_t *buffer, size_t room);
 
 #ifdef __cplusplus
 }

@@ -3,9 +3,10 @@
 //! Why it is sound, for every call: it is proved to answer for every input, whatever the bytes and the numbers are, so
 //! nothing is asked of its caller but what a slice gives anyway: a pointer that is not null (that of an empty slice
 //! dangles, but it is not null and nothing is read behind it) and as many readable bytes as the length says. It keeps no
-//! pointer, allocates nothing and writes to nothing but the answer and, where one is lent, the table. The structs are laid
-//! out as in the header: the test below holds their sizes, and `tests/gauge.rs` every field, to what C has. Answers are
-//! plain numbers, and every pattern of bits is one.
+//! pointer, allocates nothing and writes to nothing but the answer and, where they are lent, the table and the buffer.
+//! What is lent to be written is lent alone, so it overlaps nothing else that the call sees. The structs are laid out as
+//! in the header: the test below holds their sizes, and `tests/gauge.rs` every field, to what C has. Answers are plain
+//! numbers, and every pattern of bits is one.
 
 use std::mem::size_of;
 
@@ -156,6 +157,27 @@ pub struct Shown {
     pub value: Value,
 }
 
+/// The source of a row or a value whose places count in the database.
+pub const DATABASE: u8 = 0;
+
+/// The source of one whose places count in the gather buffer.
+pub const BUFFER: u8 = 1;
+
+/// A row, and the bytes that the places of its values count in.
+#[repr(C)]
+pub struct LentRow {
+    pub row: Row,
+    pub source: u8,
+}
+
+/// A value, and the bytes that its place counts in.
+#[repr(C)]
+pub struct LentValue {
+    pub refused: Refused,
+    pub value: Value,
+    pub source: u8,
+}
+
 extern "C" {
     fn shorgavel_header(db: *const u8, length: usize, reading: u8) -> HeaderAnswer;
     fn shorgavel_pages(db: *const u8, length: usize, reading: u8) -> PagesAnswer;
@@ -180,6 +202,34 @@ extern "C" {
     fn shorgavel_old_value(db: *const u8, length: usize, page: u32, cell: usize, column: usize) -> Shown;
     fn shorgavel_file_value(db: *const u8, length: usize, page: u32, cell: usize, column: usize) -> Shown;
     fn shorgavel_guarded_value(db: *const u8, length: usize, page: u32, cell: usize, column: usize) -> Shown;
+    fn shorgavel_file_value_lent(
+        db: *const u8,
+        length: usize,
+        page: u32,
+        cell: usize,
+        column: usize,
+        buffer: *mut u8,
+        room: usize,
+    ) -> LentValue;
+    fn shorgavel_guarded_value_lent(
+        db: *const u8,
+        length: usize,
+        page: u32,
+        cell: usize,
+        column: usize,
+        buffer: *mut u8,
+        room: usize,
+    ) -> LentValue;
+    fn shorgavel_row_lent(
+        db: *const u8,
+        length: usize,
+        page: Opened,
+        cell: usize,
+        table: *mut Value,
+        words: usize,
+        buffer: *mut u8,
+        room: usize,
+    ) -> LentRow;
 }
 
 /// The header's fields, or the first check that fails.
@@ -224,13 +274,37 @@ pub fn row_in(db: &[u8], page: &Opened, cell: usize, table: &mut Vec<Value>) -> 
     // below holds; so no more is written than is the table's. It is lent alone, so nothing else sees it while it is
     // written, and values need no drop, so those that were there may be written over.
     let row = unsafe { shorgavel_row_in(db.as_ptr(), db.len(), *page, cell, table.as_mut_ptr(), words) };
+    // SAFETY: the row was answered with the words of this table.
+    unsafe { take(table, &row) };
+    row
+}
+
+/// The same, and a payload that spills is put together in the buffer.
+#[inline]
+pub fn row_lent(db: &[u8], page: &Opened, cell: usize, table: &mut Vec<Value>, buffer: &mut [u8]) -> LentRow {
+    let words = table.capacity() * WORDS;
+    let (places, bytes) = (table.as_mut_ptr(), buffer.as_mut_ptr());
+    // SAFETY: as for `row_in`; the buffer's pointer and length are of one slice too, lent alone, and what is written to it
+    // are bytes.
+    let lent = unsafe { shorgavel_row_lent(db.as_ptr(), db.len(), *page, cell, places, words, bytes, buffer.len()) };
+    // SAFETY: the row was answered with the words of this table.
+    unsafe { take(table, &lent.row) };
+    lent
+}
+
+/// The table has the values that a row was answered with.
+///
+/// # Safety
+///
+/// The call that answered the row was lent all words of the table, and nothing was done to the table since.
+#[inline]
+unsafe fn take(table: &mut Vec<Value>, row: &Row) {
     debug_assert!(row.count <= row.columns && row.count <= table.capacity());
     // SAFETY: it is proved that the count is the smaller of the row's columns and the table's places, or 0 on a refusal,
     // and that all five words are written of so many places, from the first on. Whatever words are written, each such
     // place is a value, since every pattern of bits is one in each of its fields, and what is between them may be
     // anything.
     unsafe { table.set_len(row.count) };
-    row
 }
 
 /// One column of a cell in the old reading.
@@ -249,6 +323,20 @@ pub fn file_value(db: &[u8], page: u32, cell: usize, column: usize) -> Shown {
 pub fn guarded_value(db: &[u8], page: u32, cell: usize, column: usize) -> Shown {
     // SAFETY: as for `old_value`.
     unsafe { shorgavel_guarded_value(db.as_ptr(), db.len(), page, cell, column) }
+}
+
+/// One column of a cell in the file reading, with a buffer for a payload that spills.
+pub fn file_value_lent(db: &[u8], page: u32, cell: usize, column: usize, buffer: &mut [u8]) -> LentValue {
+    let (bytes, room) = (buffer.as_mut_ptr(), buffer.len());
+    // SAFETY: as for `old_value`; the buffer's pointer and length are of one slice too, lent alone.
+    unsafe { shorgavel_file_value_lent(db.as_ptr(), db.len(), page, cell, column, bytes, room) }
+}
+
+/// One column of a cell in the guarded reading, with a buffer for a payload that spills.
+pub fn guarded_value_lent(db: &[u8], page: u32, cell: usize, column: usize, buffer: &mut [u8]) -> LentValue {
+    let (bytes, room) = (buffer.as_mut_ptr(), buffer.len());
+    // SAFETY: as for `file_value_lent`.
+    unsafe { shorgavel_guarded_value_lent(db.as_ptr(), db.len(), page, cell, column, bytes, room) }
 }
 
 #[cfg(test)]
@@ -272,6 +360,8 @@ mod tests {
         assert_eq!(size_of::<Row>(), 80);
         assert_eq!(size_of::<Value>(), 40);
         assert_eq!(size_of::<Shown>(), 64);
+        assert_eq!(size_of::<LentRow>(), 88);
+        assert_eq!(size_of::<LentValue>(), 72);
     }
 
     /// A table of values is a table of words too: five a place, and none stands askew.
@@ -324,6 +414,10 @@ mod tests {
                     assert_eq!((value.kind, value.integer), (INTEGER, shown));
                     assert_eq!((value.bits, value.at, value.len), (0, 0, 0));
                 }
+                let (mut other, mut buffer) = (table_of(places), [9; 4]);
+                let lent = row_lent(&bytes, &page, 0, &mut other, &mut buffer);
+                assert_eq!((lent.source, lent.row.number, buffer), (0, 3, [9; 4]));
+                assert_eq!(format!("{other:?}"), format!("{table:?}"));
             }
         }
     }
@@ -335,6 +429,9 @@ mod tests {
         let page = open(&bytes, 1, 1).opened;
         let mut table = table_of(3);
         assert_eq!(row_in(&bytes, &page, 1, &mut table).refused.number, 20);
+        assert_eq!((table.len(), table.capacity()), (0, 3));
+        let mut table = table_of(3);
+        assert_eq!(row_lent(&bytes, &page, 1, &mut table, &mut []).row.refused.number, 20);
         assert_eq!((table.len(), table.capacity()), (0, 3));
     }
 
@@ -355,6 +452,8 @@ mod tests {
             for cell in [0, usize::MAX - 1] {
                 let mut table = table_of(2);
                 assert_ne!(row_in(&[9], &page, cell, &mut table).refused.number, 0);
+                assert!(table.is_empty());
+                assert_ne!(row_lent(&[9], &page, cell, &mut table, &mut []).row.refused.number, 0);
                 assert!(table.is_empty());
             }
         }

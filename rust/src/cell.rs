@@ -1,15 +1,17 @@
 use crate::bytes::Bytes;
 use crate::calls;
 use crate::table::Table;
-use crate::{Page, Refusal, Value, Values, Width};
+use crate::{Notes, Page, Refusal, Value, Values, Width};
 use std::iter::FusedIterator;
 use std::ops::Range;
 
 /// A cell of a page, checked by itself: its row number and the values of its record.
 ///
 /// It has all of its values, in memory that the next cell is given once this one is dropped. A cell that is kept keeps it.
+/// The bytes of texts and blobs are the caller's or, where the payload spills, those of the [`Notes`] that were lent.
 #[derive(Clone, Debug)]
 pub struct Cell<'a> {
+    /// Those in which the places of its values count.
     bytes: Bytes<'a>,
     rowid: i64,
     table: Table,
@@ -20,6 +22,18 @@ impl<'a> Cell<'a> {
     pub(crate) fn of(bytes: Bytes<'a>, page: &calls::Opened, cell: usize) -> Result<Cell<'a>, Refusal> {
         let (rowid, table) = Table::fetch(bytes, page, cell)?;
         Ok(Cell { bytes, rowid, table })
+    }
+
+    /// The same, and where the payload spills, it is put together in the notes.
+    #[inline]
+    pub(crate) fn with(
+        bytes: Bytes<'a>,
+        page: &calls::Opened,
+        cell: usize,
+        notes: &'a mut Notes,
+    ) -> Result<Cell<'a>, Refusal> {
+        let (rowid, table, source) = Table::fetch_with(bytes, page, cell, notes)?;
+        Ok(Cell { bytes: notes.source(source, bytes), rowid, table })
     }
 
     /// The row number of a table leaf's cell, the key of an interior table's.
@@ -36,7 +50,7 @@ impl<'a> Cell<'a> {
         self.table.values().len()
     }
 
-    /// The values, one after the other. Texts and blobs in them are the caller's bytes, and outlive the cell.
+    /// The values, one after the other. Texts and blobs in them are the caller's bytes or the notes', and outlive the cell.
     #[inline]
     pub fn values(&self) -> Values<'_, 'a> {
         Values::of(self.bytes, self.table.values())

@@ -1,6 +1,6 @@
 use crate::bytes::Bytes;
 use crate::calls;
-use crate::{DbHeader, Leaves, Page, Reading, Refusal, Rows, Value};
+use crate::{DbHeader, Leaves, Notes, Page, Reading, Refusal, Rows, Value};
 use std::ops::Range;
 
 /// A gauge's database: the bytes of its file, which stay the caller's.
@@ -70,5 +70,29 @@ impl<'a> Gauge<'a> {
         };
         Refusal::check(&shown.refused)?;
         Ok(Value::of(self.bytes.0, &shown.value))
+    }
+
+    /// One value, and one of a long note too: what [`Gauge::value`] refuses with 18 is put together in the notes, and the
+    /// value borrows them.
+    pub fn value_with<'n>(
+        &self,
+        reading: Reading,
+        pageno: u32,
+        cell: usize,
+        column: usize,
+        notes: &'n mut Notes,
+    ) -> Result<Value<'n>, Refusal>
+    where
+        'a: 'n,
+    {
+        let call = match reading {
+            // It never looks at the payload's size, so nothing spills.
+            Reading::Old => return self.value(reading, pageno, cell, column),
+            Reading::File => calls::file_value_lent,
+            Reading::Guarded => calls::guarded_value_lent,
+        };
+        let lent = notes.value(self.bytes, |bytes, buffer| call(bytes, pageno, cell, column, buffer));
+        Refusal::check(&lent.refused)?;
+        Ok(Value::of(notes.source(lent.source, self.bytes).0, &lent.value))
     }
 }

@@ -31,7 +31,8 @@
 //! ```
 //!
 //! Pages count from 0 in the old reading, as in the original's `get_page`, and from 1 in the other two; cells and columns
-//! count from 0. [`moving`] shows how to come over from sqlite-parser-nom.
+//! count from 0. Long notes, which spill to overflow pages, are shown where [`Notes`] are lent. [`moving`] shows how to
+//! come over from sqlite-parser-nom.
 
 #![deny(unsafe_code)]
 #![warn(missing_docs)]
@@ -46,6 +47,7 @@ mod gauge;
 mod header;
 mod kind;
 mod mark;
+mod notes;
 mod page;
 mod reading;
 mod refusal;
@@ -61,6 +63,7 @@ pub use gauge::Gauge;
 pub use header::DbHeader;
 pub use kind::Kind;
 pub use mark::Mark;
+pub use notes::Notes;
 pub use page::Page;
 pub use reading::Reading;
 pub use refusal::Refusal;

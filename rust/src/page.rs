@@ -1,6 +1,6 @@
 use crate::bytes::Bytes;
 use crate::calls;
-use crate::{Cell, Cells, Entry, Head, Kind, Reading, Refusal};
+use crate::{Cell, Cells, Entry, Head, Kind, Notes, Reading, Refusal};
 
 /// A page that is opened: its kind and cell count are known, its cells are looked at one by one.
 #[derive(Clone, Copy, Debug)]
@@ -46,6 +46,16 @@ impl<'a> Page<'a> {
     #[inline]
     pub fn cell(&self, cell: usize) -> Result<Cell<'a>, Refusal> {
         Cell::of(self.bytes, &self.opened, cell)
+    }
+
+    /// A cell, and a long note in it too: what [`Page::cell`] refuses with 18 is put together in the notes, and the cell
+    /// borrows them. Any other cell is shown or refused as there.
+    #[inline]
+    pub fn cell_with<'n>(&self, cell: usize, notes: &'n mut Notes) -> Result<Cell<'n>, Refusal>
+    where
+        'a: 'n,
+    {
+        Cell::with(self.bytes, &self.opened, cell, notes)
     }
 
     /// All cells, each shown or refused by itself.

@@ -34,11 +34,13 @@ const REASONS: &[(usize, &str, &str)] = &[
     (15, "TypeReserved", "the type is 10 or 11, which are reserved"),
     (16, "ValueUnfit", "the value passes the end, or bytes are left over behind the last"),
     (17, "ClosingCut", "the varint behind the index record has no end"),
-    (18, "PayloadSpills", "the payload spills to overflow pages, which are not read"),
+    (18, "PayloadSpills", "the payload spills to overflow pages, and no gather buffer is lent"),
     (19, "TableTooShort", "the lent table is shorter than the cell count"),
     (20, "NoSuchCellOrColumn", "there is no such cell, or no such column in it"),
     (21, "Marked", "old and file need not agree"),
     (22, "OverLimit", "there are over 1,073,741,824 bytes"),
+    (23, "ChainUnfit", "the overflow chain leaves the file, ends early or goes on"),
+    (24, "BufferTooShort", "the gather buffer is shorter than the payload"),
 ];
 
 impl Refusal {
@@ -84,9 +86,9 @@ impl Refusal {
         self.reason().1
     }
 
-    /// The cell that is refused, where one is: for 12 to 18 and 21.
+    /// The cell that is refused, where one is: for 12 to 18, 21, 23 and 24.
     pub fn cell(self) -> Option<usize> {
-        matches!(self.number, 12..=18 | 21).then_some(self.cell)
+        matches!(self.number, 12..=18 | 21 | 23 | 24).then_some(self.cell)
     }
 
     /// The column that is refused, where one is: for 15 and 16.

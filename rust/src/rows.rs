@@ -1,4 +1,4 @@
-use crate::{Cell, Gauge, Kind, Page, Reading, Refusal};
+use crate::{Cell, Gauge, Kind, Notes, Page, Reading, Refusal};
 use std::iter::FusedIterator;
 use std::ops::Range;
 
@@ -74,6 +74,28 @@ impl<'a> Rows<'a> {
         Rows { leaves, page: None, cells: 0..0 }
     }
 
+    /// The next row, and a long note in it too: what [`Rows::next`] has refused with 18 is put together in the notes. The
+    /// row borrows them, so it is done with before the next one is asked for; [`Notes`] has an example.
+    #[inline]
+    pub fn next_with<'n>(&mut self, notes: &'n mut Notes) -> Option<Row<'n>>
+    where
+        'a: 'n,
+    {
+        self.step(|page, cell| page.cell_with(cell, notes))
+    }
+
+    /// The next row as the call shows it. Leaves that have no cell are passed over.
+    #[inline]
+    fn step<'n>(&mut self, show: impl FnOnce(&Page<'a>, usize) -> Result<Cell<'n>, Refusal>) -> Option<Row<'n>> {
+        loop {
+            if let (Some(page), Some(cell)) = (&self.page, self.cells.next()) {
+                let number = page.number() - page.reading().first_page() + 1;
+                return Some(Row { page: number, cell, shown: show(page, cell) });
+            }
+            self.turn()?;
+        }
+    }
+
     /// The next leaf, if there is one.
     fn turn(&mut self) -> Option<()> {
         let page = self.leaves.next()?;
@@ -88,12 +110,6 @@ impl<'a> Iterator for Rows<'a> {
 
     #[inline]
     fn next(&mut self) -> Option<Row<'a>> {
-        loop {
-            if let (Some(page), Some(cell)) = (&self.page, self.cells.next()) {
-                let number = page.number() - page.reading().first_page() + 1;
-                return Some(Row { page: number, cell, shown: page.cell(cell) });
-            }
-            self.turn()?;
-        }
+        self.step(|page, cell| page.cell(cell))
     }
 }

@@ -1,7 +1,10 @@
 use crate::bytes::Bytes;
 use crate::calls;
-use crate::Refusal;
+use crate::{Notes, Refusal};
 use std::cell::Cell;
+
+/// The refusal for a payload that spills.
+const SPILLS: u8 = 18;
 
 /// How many values a new table has places for. A gauge's rows have six.
 const PLACES: usize = 8;
@@ -20,12 +23,35 @@ impl Places {
         Box::new(Places(Vec::with_capacity(PLACES)))
     }
 
-    /// Reads the row again, with a place for each column.
-    #[cold]
-    fn widen(&mut self, bytes: Bytes<'_>, page: &calls::Opened, cell: usize, columns: usize) {
+    /// Those of the row that was dropped last, or new ones.
+    #[inline]
+    fn spare() -> Box<Places> {
+        match SPARE.try_with(Cell::take) {
+            Ok(Some(places)) => places,
+            // None is spare, or the thread ends and keeps nothing any more.
+            Ok(None) | Err(_) => Places::new(),
+        }
+    }
+
+    /// A place for each column.
+    fn widen(&mut self, columns: usize) {
         self.0.clear();
         self.0.reserve(columns);
+    }
+
+    /// Reads the row again, with a place for each column.
+    #[cold]
+    fn again(&mut self, bytes: Bytes<'_>, page: &calls::Opened, cell: usize, columns: usize) {
+        self.widen(columns);
         let row = calls::row_in(bytes.0, page, cell, &mut self.0);
+        debug_assert_eq!((row.count, row.columns), (columns, columns));
+    }
+
+    /// The same with notes lent.
+    #[cold]
+    fn again_with(&mut self, bytes: Bytes<'_>, page: &calls::Opened, cell: usize, columns: usize, notes: &mut Notes) {
+        self.widen(columns);
+        let row = notes.row(bytes, page, cell, &mut self.0).row;
         debug_assert_eq!((row.count, row.columns), (columns, columns));
     }
 }
@@ -41,18 +67,46 @@ impl Table {
     /// A cell of an opened page: its row number, and the table of its values.
     #[inline]
     pub fn fetch(bytes: Bytes<'_>, page: &calls::Opened, cell: usize) -> Result<(i64, Table), Refusal> {
-        let mut places = match SPARE.try_with(Cell::take) {
-            Ok(Some(places)) => places,
-            // None is spare, or the thread ends and keeps nothing any more.
-            Ok(None) | Err(_) => Places::new(),
-        };
+        let mut places = Places::spare();
         let row = calls::row_in(bytes.0, page, cell, &mut places.0);
         if row.count < row.columns {
-            places.widen(bytes, page, cell, row.columns);
+            places.again(bytes, page, cell, row.columns);
         }
         let table = Table(Some(places));
         Refusal::check(&row.refused)?;
         Ok((row.number, table))
+    }
+
+    /// The same with notes lent, and the source of the bytes that the places of its values count in. They are asked for
+    /// where the call without them is refused for a payload that spills, so that a whole row costs no more.
+    #[inline]
+    pub fn fetch_with(
+        bytes: Bytes<'_>,
+        page: &calls::Opened,
+        cell: usize,
+        notes: &mut Notes,
+    ) -> Result<(i64, Table, u8), Refusal> {
+        match Table::fetch(bytes, page, cell) {
+            Err(refusal) if refusal.number() == SPILLS => Table::gather(bytes, page, cell, notes),
+            found => found.map(|(rowid, table)| (rowid, table, calls::DATABASE)),
+        }
+    }
+
+    /// A cell whose payload spills.
+    fn gather(
+        bytes: Bytes<'_>,
+        page: &calls::Opened,
+        cell: usize,
+        notes: &mut Notes,
+    ) -> Result<(i64, Table, u8), Refusal> {
+        let mut places = Places::spare();
+        let calls::LentRow { row, source } = notes.row(bytes, page, cell, &mut places.0);
+        if row.count < row.columns {
+            places.again_with(bytes, page, cell, row.columns, notes);
+        }
+        let table = Table(Some(places));
+        Refusal::check(&row.refused)?;
+        Ok((row.number, table, source))
     }
 
     /// The values, one for each column.

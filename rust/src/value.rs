@@ -1,6 +1,7 @@
 use crate::calls;
 
-/// A value of a column. The bytes of a text or a blob are the caller's: nothing is copied.
+/// A value of a column. The bytes of a text or a blob are the caller's: nothing is copied, but for a payload that spills,
+/// whose bytes are those of the [`Notes`](crate::Notes) that were lent.
 ///
 /// Two reals are equal if their bits are, so that a value that is not a number equals itself.
 #[derive(Clone, Copy, Debug)]

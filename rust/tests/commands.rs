@@ -2,7 +2,7 @@
 
 mod common;
 
-use common::{every_kind, put, two_rows};
+use common::{every_kind, long_notes, note, put, two_rows};
 use std::ffi::OsStr;
 use std::fs::{self, File};
 use std::io::Write;
@@ -123,6 +123,46 @@ fn one_reading_shows_its_lines_alone() {
     }
 }
 
+/// The bytes of a note's text, and its blob's, as `rows` has them.
+fn long_line(payload: usize) -> String {
+    let hex = |bytes: &[u8]| bytes.iter().map(|byte| format!("{byte:02x}")).collect::<String>();
+    let record = note(payload);
+    format!("i:5 t:{} null b:{}", hex(&record[7..payload - 2]), hex(&record[payload - 2..]))
+}
+
+#[test]
+fn rows_shows_long_notes_where_it_is_asked_to() {
+    let file = Kept::new("long_notes", &long_notes());
+    let (plain, lent) = (file.show(&["rows"]), file.show(&["rows", "--notes"]));
+    assert_eq!((status(&plain), status(&lent)), (0, 0));
+    for (cell, payload) in [(0, 600), (1, 987), (3, 478)] {
+        let refused = format!("\n2 {cell} file refused 18 {cell} 0 0\n2 {cell} guarded refused 18 {cell} 0 0\n");
+        assert!(out(&plain).contains(&refused));
+        let (row, line) = (cell + 1, long_line(payload));
+        let shown = format!("\n2 {cell} file {row} {line}\n2 {cell} guarded refused 21 {cell} 0 5\n");
+        assert!(out(&lent).contains(&shown));
+    }
+    let alone = file.show(&["rows", "--notes", "--reading", "file"]);
+    let of_file = |line: &&str| line.starts_with("page ") || line.contains(" file ");
+    assert_eq!(out(&alone).lines().collect::<Vec<_>>(), out(&lent).lines().filter(of_file).collect::<Vec<_>>());
+}
+
+#[test]
+fn notes_change_only_lines_that_were_refused_with_18() {
+    let long = Kept::new("long_notes_too", &long_notes());
+    let names = ["rows", "rows_hand", "rows_largest", "rows_reserved", "rows_empty", "rows_refused"];
+    let files = names.map(|name| kept(name, "stdin")).into_iter().chain([long.0.clone()]);
+    for file in files {
+        let plain = run(&[OsStr::new("rows"), file.as_os_str()]);
+        let lent = run(&[OsStr::new("rows"), OsStr::new("--notes"), file.as_os_str()]);
+        assert_eq!(out(&plain).lines().count(), out(&lent).lines().count());
+        for (before, after) in out(&plain).lines().zip(out(&lent).lines()) {
+            assert!(before == after || before.contains(" refused 18 "), "{before}");
+            assert!(!after.contains(" refused 18 "), "{after}");
+        }
+    }
+}
+
 #[test]
 fn standard_input_is_a_dash() {
     let output = fed(&["rows", "-", "--reading", "file"], &two_rows());
@@ -215,6 +255,58 @@ fn compare_tells_what_guarded_alone_refuses() {
     assert_eq!(status(&output), 1);
 }
 
+/// Of rows 1 and 2 old does not find all bytes on the page; of row 4 it shows others that stand there.
+#[test]
+fn compare_shows_long_notes() {
+    let output = fed(&["compare", "-"], &long_notes());
+    let text = |payload: usize| String::from_utf8(note(payload)[7..67].to_vec()).unwrap();
+    let place = |cell: usize| format!("page 2 cell {cell}: a long note, whose payload spills: old refuses it (");
+    let passes = "16 ValueUnfit in column 1: the value passes the end, or bytes are left over behind the last";
+    let mut lines = out(&output).lines();
+    for (cell, payload) in [(0, 600), (1, 987)] {
+        let row = format!("row {}: 5, '{}'… ({} bytes), null, x'", cell + 1, text(payload), payload - 9);
+        let expected = format!("{}{passes}), the gauge wrote {row}", place(cell));
+        assert!(lines.next().unwrap().starts_with(&expected), "{expected}");
+    }
+    let (column, wrote) = (lines.next().unwrap(), format!(", the gauge wrote '{}'… (469 bytes)", text(478)));
+    assert!(column.starts_with("page 2 cell 3 column 1: a long note, whose payload spills: old shows text x'"));
+    assert!(column.ends_with(&wrote));
+    let blob = lines.next().unwrap();
+    assert!(blob.starts_with("page 2 cell 3 column 3: a long note, whose payload spills: old shows x'"));
+    assert_eq!(lines.next(), Some("4 cells compared: 3 part, 0 are refused by old and file alike"));
+    assert_eq!((lines.next(), status(&output)), (None, 1));
+}
+
+/// A chain that ends early, where old refuses the row as well.
+#[test]
+fn compare_tells_what_is_refused_of_long_notes() {
+    let mut bytes = long_notes();
+    put(&mut bytes, 4 * 512, &[0; 4]);
+    // A type 9 in place of row 4's null: a lower mark, but the text differs for its length.
+    bytes[512 + 20 + 3 + 4] = 9;
+    let output = fed(&["compare", "-"], &bytes);
+    assert!(!out(&output).contains("page 2 cell 1"));
+    assert!(out(&output).contains("\npage 2 cell 3 column 1: a long note, whose payload spills: old shows "));
+    assert!(out(&output).contains("\npage 2 cell 3 column 2: type 9: old shows 0, the gauge wrote 1\n"));
+    assert!(out(&output).ends_with("\n4 cells compared: 2 part, 1 are refused by old and file alike\n"));
+}
+
+#[test]
+fn sheet_shows_long_notes() {
+    let mut bytes = long_notes();
+    put(&mut bytes, 4 * 512, &[0; 4]);
+    for words in [&["sheet", "-"][..], &["sheet", "-", "--parting"]] {
+        let output = fed(words, &bytes);
+        let text = String::from_utf8(note(600)[7..67].to_vec()).unwrap();
+        assert!(out(&output).contains(&format!("<b class=\"l\">'{text}'… (591 bytes)</b>")));
+        assert!(out(&output).contains(">refused 21 Marked: a long note, whose payload spills"));
+        assert!(out(&output).contains("The readings part on 2 of 4 rows"));
+        let chain = ">refused 23 ChainUnfit: the overflow chain leaves the file, ends early or goes on";
+        assert_eq!(out(&output).contains(chain), words.len() == 2);
+        assert!(!out(&output).contains("refused 18"));
+    }
+}
+
 /// A text and a name that could be taken for markup.
 #[test]
 fn sheet_is_one_page_and_escapes_what_it_shows() {
@@ -265,7 +357,7 @@ fn help_and_version_are_told() {
     for word in ["-h", "--help"] {
         let output = run(&[word]);
         assert_eq!((err(&output), status(&output)), ("", 0));
-        for command in ["header", "page", "rows", "compare", "sheet", "--reading", "--parting"] {
+        for command in ["header", "page", "rows", "compare", "sheet", "--reading", "--notes", "--parting"] {
             assert!(out(&output).contains(&format!("\n  {command} ")), "{command}");
         }
     }
@@ -275,7 +367,7 @@ fn help_and_version_are_told() {
 
 #[test]
 fn wrong_words_end_with_2() {
-    let wrong: [(&[&str], &str); 11] = [
+    let wrong: [(&[&str], &str); 12] = [
         (&[], "a command is missing"),
         (&["row"], "there is no command row"),
         (&["rows"], "rows: FILE is missing"),
@@ -286,6 +378,7 @@ fn wrong_words_end_with_2() {
         (&["rows", "-", "--reading"], "--reading takes old, file or guarded"),
         (&["rows", "-", "--reading", "new"], "--reading takes old, file or guarded"),
         (&["sheet", "-", "--reading", "old"], "sheet takes no --reading"),
+        (&["sheet", "-", "--notes"], "sheet takes no --notes"),
         (&["rows", "-", "--parting"], "rows takes no --parting"),
     ];
     for (words, why) in wrong {

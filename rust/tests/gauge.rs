@@ -2,9 +2,9 @@
 
 mod common;
 
-use common::{every_kind, put, two_rows};
+use common::{every_kind, long_notes, note, pages, put, spill, two_rows};
 use shorgavel::Reading::{File, Guarded, Old};
-use shorgavel::{Cell, Entry, Gauge, Head, Kind, Mark, Reading, Refusal, Row, TextEncoding, Value, Width};
+use shorgavel::{Cell, Entry, Gauge, Head, Kind, Mark, Notes, Reading, Refusal, Row, TextEncoding, Value, Width};
 use std::cell::RefCell;
 
 fn cell(bytes: &[u8], reading: Reading, number: usize) -> Result<Cell<'_>, Refusal> {
@@ -335,4 +335,185 @@ fn rows_go_through_the_table_leaves() {
         let leaves = Gauge::new(&bytes).leaves(reading).unwrap();
         assert_eq!(leaves.map(|page| page.len()).collect::<Vec<_>>(), [2, 1]);
     }
+}
+
+/// What the record of [`note`] has.
+fn columns(record: &[u8]) -> [Value<'_>; 4] {
+    let (text, blob) = record[7..].split_at(record.len() - 9);
+    [Value::Integer(5), Value::Text(text), Value::Null, Value::Blob(blob)]
+}
+
+#[test]
+fn long_notes_are_shown_where_notes_are_lent() {
+    let bytes = long_notes();
+    let (mut rows, mut notes) = (Gauge::new(&bytes).rows(File).unwrap(), Notes::new());
+    for (place, payload) in [600, 987, 0, 478].into_iter().enumerate() {
+        let row = rows.next_with(&mut notes).unwrap();
+        assert_eq!((row.page, row.cell), (2, place));
+        let shown = row.shown.unwrap();
+        assert_eq!(shown.rowid(), place as i64 + 1);
+        if payload == 0 {
+            assert_eq!(values(&shown), [Value::Integer(7)]);
+        } else {
+            assert_eq!(values(&shown), columns(&note(payload)));
+        }
+    }
+    assert!(rows.next_with(&mut notes).is_none());
+    let refusals: Vec<_> = Gauge::new(&bytes).rows(File).unwrap().filter_map(|row| row.shown.err()).collect();
+    assert_eq!(
+        refusals.iter().map(|refusal| (refusal.number(), refusal.cell())).collect::<Vec<_>>(),
+        [(18, Some(0)), (18, Some(1)), (18, Some(3))]
+    );
+}
+
+#[test]
+fn cells_and_values_of_long_notes_are_those_of_rows() {
+    let bytes = long_notes();
+    let gauge = Gauge::new(&bytes);
+    let (mut notes, mut others) = (Notes::new(), Notes::new());
+    for (page, number, payload) in [(2, 0, 600), (2, 1, 987), (2, 3, 478), (7, 0, 200)] {
+        let record = note(payload);
+        let row = gauge.get_page(File, page).unwrap().cell_with(number, &mut notes).unwrap();
+        assert_eq!(values(&row), columns(&record));
+        for (column, value) in columns(&record).into_iter().enumerate() {
+            assert_eq!(gauge.value_with(File, page, number, column, &mut others), Ok(value));
+        }
+        assert_eq!(gauge.value_with(File, page, number, 4, &mut others).unwrap_err().number(), 20);
+        assert_eq!(gauge.value(File, page, number, 0).unwrap_err().name(), "PayloadSpills");
+    }
+}
+
+/// A text of a row that spills is of the notes, and one of a whole row the caller's; both outlive their cells.
+#[test]
+fn texts_are_the_callers_bytes_or_the_notes() {
+    let (bytes, mut notes) = (long_notes(), Notes::new());
+    let text = Gauge::new(&bytes).get_page(File, 2).unwrap().cell_with(0, &mut notes).unwrap().value(1).unwrap();
+    assert!(!bytes.as_ptr_range().contains(&text.bytes().unwrap().as_ptr()));
+    assert_eq!(text, columns(&note(600))[1]);
+    let bytes = every_kind();
+    let text = Gauge::new(&bytes).get_page(File, 1).unwrap().cell_with(1, &mut notes).unwrap().value(4).unwrap();
+    assert_eq!(text.bytes().unwrap().as_ptr(), bytes[429..].as_ptr());
+}
+
+/// Where no row spills, all is as without notes, and so is the old reading.
+#[test]
+fn notes_change_nothing_else() {
+    for bytes in [two_rows(), every_kind(), long_row(100), long_notes(), Vec::new()] {
+        for reading in Reading::ALL {
+            let Ok(plain) = Gauge::new(&bytes).rows(reading) else {
+                continue;
+            };
+            let (mut rows, mut notes) = (plain.clone(), Notes::new());
+            for row in plain {
+                let lent = rows.next_with(&mut notes).unwrap();
+                if row.shown.as_ref().is_err_and(|refusal| refusal.number() == 18) {
+                    continue;
+                }
+                assert_eq!(format!("{lent:?}"), format!("{row:?}"));
+                let (page, cell) = (row.page - 1 + reading.first_page(), row.cell);
+                let single = Gauge::new(&bytes).value(reading, page, cell, 1);
+                assert_eq!(Gauge::new(&bytes).value_with(reading, page, cell, 1, &mut notes), single);
+            }
+        }
+    }
+}
+
+/// Guarded never shows a row that spills: it tells the lowest mark.
+#[test]
+fn guarded_marks_long_notes() {
+    let (mut bytes, mut notes) = (long_notes(), Notes::new());
+    let refusal = Gauge::new(&bytes).get_page(Guarded, 2).unwrap().cell_with(1, &mut notes).unwrap_err();
+    assert_eq!((refusal.number(), refusal.cell(), refusal.mark()), (21, Some(1), Some(Mark::Spills)));
+    let said = "refused 21 (Marked) in cell 1: old and file need not agree: a long note, whose payload spills";
+    assert_eq!(refusal.to_string(), said);
+    assert_eq!(Gauge::new(&bytes).value_with(Guarded, 2, 1, 1, &mut notes), Err(refusal));
+    assert_eq!(Gauge::new(&bytes).get_page(Guarded, 2).unwrap().cell(1).unwrap_err().number(), 18);
+    // A type 9 in place of the null.
+    bytes[512 + 367 + 3 + 4] = 9;
+    let refusal = Gauge::new(&bytes).value_with(Guarded, 2, 1, 1, &mut notes).unwrap_err();
+    assert_eq!((refusal.number(), refusal.mark()), (21, Some(Mark::TypeNine)));
+}
+
+/// A database of 40 pages, 20,480 bytes, whose row has a payload of 8,194.
+fn longer_note() -> Vec<u8> {
+    let mut bytes = pages(40);
+    put(&mut bytes, 512, b"\x0d\x00\x00\x00\x01\x00\xc8\x00\x00\xc8");
+    spill(&mut bytes, 2, 200, b"\xc0\x02\x01", &note(8194), 66, &(3..=18).collect::<Vec<_>>());
+    bytes
+}
+
+/// Notes start with 8,192 bytes, or as many as the database has, and grow by doubling.
+#[test]
+fn notes_grow_with_the_payload() {
+    let (small, large, mut notes) = (long_notes(), longer_note(), Notes::new());
+    let small = Gauge::new(&small).get_page(File, 2).unwrap();
+    let large = Gauge::new(&large).get_page(File, 2).unwrap();
+    assert_eq!(values(&small.cell_with(0, &mut notes).unwrap()), columns(&note(600)));
+    assert_eq!(format!("{notes:?}"), "Notes(4096 bytes)");
+    assert_eq!(values(&large.cell_with(0, &mut notes).unwrap()), columns(&note(8194)));
+    assert_eq!(format!("{notes:?}"), "Notes(16384 bytes)");
+    assert_eq!(values(&small.cell_with(1, &mut notes).unwrap()), columns(&note(987)));
+    let (bytes, mut others) = (longer_note(), Notes::new());
+    assert_eq!(Gauge::new(&bytes).value_with(File, 2, 0, 1, &mut others), Ok(columns(&note(8194))[1]));
+    assert_eq!(format!("{others:?}"), "Notes(16384 bytes)");
+}
+
+/// A payload of 4,097 bytes is in no chain of 4,096: that is told also by notes that have grown with another database.
+#[test]
+fn what_notes_held_before_changes_no_answer() {
+    let (mut bytes, large, mut notes) = (long_notes(), longer_note(), Notes::new());
+    put(&mut bytes, 512 + 413, b"\xa0\x01");
+    let page = Gauge::new(&bytes).get_page(File, 2).unwrap();
+    let refusal = page.cell_with(0, &mut notes).unwrap_err();
+    assert_eq!((refusal.number(), refusal.cell()), (24, Some(0)));
+    assert!(Gauge::new(&large).value_with(File, 2, 0, 0, &mut notes).is_ok());
+    assert_eq!(page.cell_with(0, &mut notes).unwrap_err(), refusal);
+    assert_eq!(Gauge::new(&bytes).value_with(File, 2, 0, 0, &mut notes), Err(refusal));
+}
+
+/// The row has more columns than its table has places at first, and their types spill as well.
+#[test]
+fn long_notes_of_many_columns_are_shown_to_their_end() {
+    let mut record = vec![0x82, 0x2e];
+    record.extend([1; 300]);
+    record.extend((0..300).map(|column| (column % 100) as u8));
+    let mut bytes = pages(3);
+    put(&mut bytes, 512, b"\x0d\x00\x00\x00\x01\x00\xc8\x00\x00\xc8");
+    spill(&mut bytes, 2, 200, b"\x84\x5a\x01", &record, 94, &[3]);
+    let mut notes = Notes::new();
+    let row = Gauge::new(&bytes).get_page(File, 2).unwrap().cell_with(0, &mut notes).unwrap();
+    let expected: Vec<_> = (0..300).map(|column| Value::Integer(column % 100)).collect();
+    assert_eq!((row.columns(), values(&row)), (300, expected));
+}
+
+#[test]
+fn chains_that_are_not_sound_are_refused() {
+    let mut notes = Notes::new();
+    let mut refused = |at: usize, part: &[u8]| {
+        let mut bytes = long_notes();
+        put(&mut bytes, at, part);
+        let file = Gauge::new(&bytes).get_page(File, 2).unwrap().cell_with(1, &mut notes).unwrap_err();
+        assert_eq!(Gauge::new(&bytes).value_with(File, 2, 1, 0, &mut notes), Err(file));
+        assert_eq!(Gauge::new(&bytes).value_with(Guarded, 2, 1, 0, &mut notes), Err(file));
+        file.to_string()
+    };
+    let chain = "refused 23 (ChainUnfit) in cell 1: the overflow chain leaves the file, ends early or goes on";
+    let first = 512 + 367 + 3 + 39;
+    // It leaves the file, ends early, goes on, and goes in a circle.
+    for (at, next) in [(first, 9), (first, 0), (4 * 512, 0), (3 * 512, 5), (3 * 512, 3), (4 * 512, 5)] {
+        assert_eq!(refused(at, &[0, 0, 0, next]), chain);
+    }
+    // A payload that is longer than the file is in none of its chains.
+    let short = "refused 24 (BufferTooShort) in cell 1: the gather buffer is shorter than the payload";
+    assert_eq!(refused(512 + 367, &[0xff, 0x7f]), short);
+    // What is kept and the number of the next page pass the page's end.
+    assert_eq!(refused(512 + 10, &[1, 0xfb]), "refused 13 (CellCut) in cell 1: the cell is cut short");
+}
+
+/// Nothing is allocated until a payload spills, and a buffer is shown by its length alone.
+#[test]
+fn notes_have_no_room_until_it_is_asked_for() {
+    let (bytes, mut notes) = (long_notes(), Notes::new());
+    assert!(Gauge::new(&bytes).value_with(File, 2, 2, 0, &mut notes).is_ok());
+    assert_eq!(format!("{notes:?}"), "Notes(0 bytes)");
 }

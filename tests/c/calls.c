@@ -1,22 +1,13 @@
-/* Calls every function of include/shorgavel.h on a database of one page, and checks every number that it answers.
+/* Calls every function of include/shorgavel.h that is lent no gather buffer on a database of one page, and checks every number
+ * that it answers; notes.c calls the others.
  *
  * The page is a table leaf of two rows, worked by hand: cell 0 is an idle load, a type 9, which the old reading shows as 0.
  */
 #include <stdio.h>
 #include <string.h>
 
+#include "check.h"
 #include "shorgavel.h"
-
-static int failed;
-
-#define CHECK(what) check((what), #what, __LINE__)
-
-static void check(int holds, const char *what, int line) {
-    if (!holds) {
-        printf("line %d: not so: %s\n", line, what);
-        failed = 1;
-    }
-}
 
 static uint8_t db[512];
 
@@ -31,26 +22,6 @@ static void write_database(void) {
     PUT(100, "\x0d\x00\x00\x00\x02\x01\xee\x00\x01\xf7\x01\xee");
     PUT(494, "\x07\x02\x03\x08\x04\x01\x00\x00\x00");
     PUT(503, "\x07\x01\x03\x09\x04\x01\x00\x00\x00");
-}
-
-/* WHAT IS EXPECTED, field by field: structs have padding, which no call fills */
-
-static int refused(shorgavel_refused r, int number, int mark, size_t cell, size_t column) {
-    return r.number == number && r.mark == mark && r.cell == cell && r.column == column;
-}
-
-static int accepted(shorgavel_refused r) { return refused(r, 0, 0, 0, 0); }
-
-static int value(shorgavel_value v, int kind, int width, int64_t integer, uint64_t bits, size_t at, size_t len) {
-    return v.kind == kind && v.width == width && v.integer == integer && v.bits == bits && v.at == at && v.len == len;
-}
-
-static int integer(shorgavel_value v, int width, int64_t z) { return value(v, SHORGAVEL_INTEGER, width, z, 0, 0, 0); }
-
-static int nothing(shorgavel_value v) { return value(v, SHORGAVEL_NULL, 0, 0, 0, 0, 0); }
-
-static int along(shorgavel_along a, size_t at, size_t stop, size_t v, size_t end) {
-    return a.at == at && a.stop == stop && a.value == v && a.end == end;
 }
 
 /* THE CALLS */
@@ -140,10 +111,6 @@ static void entries(void) {
 
 /* A row's two values along its cursor: one by one, both at once, and none behind them. */
 typedef shorgavel_filled values_call(const uint8_t *, size_t, shorgavel_along, shorgavel_value *, size_t);
-
-static const shorgavel_value blank = {.kind = 255, .width = 7, .integer = 7, .bits = 7, .at = 7, .len = 7};
-
-static int is_blank(shorgavel_value v) { return value(v, 255, 7, 7, 7, 7, 7); }
 
 static void two_values(values_call *fill, shorgavel_along first, int64_t z, int width, int wider) {
     shorgavel_value table[3] = {blank, blank, blank};
@@ -245,33 +212,9 @@ static const reading readings[] = {
     {SHORGAVEL_GUARDED, 1, shorgavel_guarded_cell, shorgavel_file_values},
 };
 
-/* More places than any row here has columns. */
-enum { PLACES = 9 };
-
-static void make_blank(shorgavel_value *table) {
-    for (size_t i = 0; i < PLACES; i++) table[i] = blank;
-}
-
-static int all_blank(const shorgavel_value *table) {
-    for (size_t i = 0; i < PLACES; i++) {
-        if (!is_blank(table[i])) return 0;
-    }
-    return 1;
-}
-
-static int same_values(const shorgavel_value *a, const shorgavel_value *b, size_t count) {
-    for (size_t i = 0; i < count; i++) {
-        if (!value(a[i], b[i].kind, b[i].width, b[i].integer, b[i].bits, b[i].at, b[i].len)) return 0;
-    }
-    return 1;
-}
-
 static int same_head(const shorgavel_row *row, const shorgavel_cell *c) {
-    return refused(row->refused, c->refused.number, c->refused.mark, c->refused.cell, c->refused.column) &&
-           row->number == c->row && row->columns == c->columns;
+    return same_refused(row->refused, c->refused) && row->number == c->row && row->columns == c->columns;
 }
-
-static int same_along(shorgavel_along a, shorgavel_along b) { return along(a, b.at, b.stop, b.value, b.end); }
 
 /* With a table of so many words: the values that fit, nothing behind them, and the others from the cursor on. */
 static void row_is_cell(const reading *r, shorgavel_opened page, size_t cell, size_t words) {
@@ -370,15 +313,6 @@ static void refused_rows(void) {
         other.kind = others[i];
         CHECK(row_refused(db, sizeof db, other, 1, 10, 0) && row_refused(db, 0, other, 1, 10, 0));
     }
-}
-
-/* A byte that looks drawn by lot, one time in three one that says something as a type, a length or an end. */
-static uint8_t lot(void) {
-    static const uint8_t telling[] = {0, 1, 7, 8, 9, 10, 11, 12, 13, 14, 15, 127, 128, 129, 255};
-    static uint32_t state = 1;
-    state = state * 1664525 + 1013904223;
-    uint8_t byte = (uint8_t)(state >> 24);
-    return (state >> 16) % 3 == 0 ? telling[byte % sizeof telling] : byte;
 }
 
 /* What a cursor that no call answered shows of 30 bytes: no text and no blob outside them. */

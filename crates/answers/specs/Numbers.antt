@@ -40,12 +40,15 @@ markNumber ma.LongVarint = 1
 markNumber ma.WideHeaderSize = 2
 markNumber ma.StoredOne = 3
 markNumber ma.EmptyValue = 4
+markNumber ma.Spilled = 5
 
 -- in a cell
 abbrev pub faultRow : ℕ → Fault → Numbers
 faultRow cell fa.PointerOutside = row 12 cell 0 0
 faultRow cell fa.CellCut = row 13 cell 0 0
 faultRow cell fa.PayloadSpills = row 18 cell 0 0
+faultRow cell fa.BufferTooShort = row 24 cell 0 0
+faultRow cell fa.ChainUnfit = row 23 cell 0 0
 faultRow cell fa.HeaderUnfit = row 14 cell 0 0
 faultRow cell (fa.TypeReserved column) = row 15 cell column 0
 faultRow cell (fa.ValueUnfit column) = row 16 cell column 0

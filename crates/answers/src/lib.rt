@@ -54,6 +54,10 @@ pub enum Fault {
     PointerOutside,
     CellCut,
     PayloadSpills,
+    // A gather buffer is shorter than the payload.
+    BufferTooShort,
+    // An overflow chain leaves the file, ends early or goes on.
+    ChainUnfit,
     HeaderUnfit,
     TypeReserved { column: usize },
     // The value passes the end; with the column count, bytes are left over behind the last value.
@@ -72,6 +76,8 @@ pub enum Mark {
     StoredOne,
     // A text or a blob with no bytes.
     EmptyValue,
+    // A payload that spills.
+    Spilled,
 }
 
 // A refusal as it is printed and exported. What does not apply is 0.
@@ -144,6 +150,8 @@ fn fault_row(cell: usize, fault: Fault) -> Numbers
         Fault::PointerOutside => row_of(12, cell, 0, 0),
         Fault::CellCut => row_of(13, cell, 0, 0),
         Fault::PayloadSpills => row_of(18, cell, 0, 0),
+        Fault::BufferTooShort => row_of(24, cell, 0, 0),
+        Fault::ChainUnfit => row_of(23, cell, 0, 0),
         Fault::HeaderUnfit => row_of(14, cell, 0, 0),
         Fault::TypeReserved { column } => row_of(15, cell, column, 0),
         Fault::ValueUnfit { column } => row_of(16, cell, column, 0),
@@ -160,5 +168,6 @@ fn mark_number(mark: Mark) -> u8
         Mark::WideHeaderSize => 2,
         Mark::StoredOne => 3,
         Mark::EmptyValue => 4,
+        Mark::Spilled => 5,
     }
 }

@@ -1,7 +1,7 @@
 -- One cell of a page, whole and by itself: what the calls on a cell ask first. The header's checks, the page's, then whether
 -- there is such a cell, then the cell with its whole record, and no other cell.
 use Prim.Native.Nat.{ℕ, _^_}
-use mathlib.Core.List.{List}
+use mathlib.Core.List.{List, []}
 use lib.Dec.{ltb}
 use lib.IntN.{ℤ}
 use lib.ListN.{length}
@@ -19,7 +19,7 @@ use Rattle.page.specs.declared.Open.{Open}
 use Rattle.page.specs.Open.{onPage, openOf, liesIn}
 use Rattle.cells.specs.declared.LocatedAnswer.{LocatedAnswer}
 use Rattle.cells.specs.declared.LocatedAnswer.the-variants as la
-use Rattle.cells.specs.Pointers.{pointerAt, cellAt}
+use Rattle.cells.specs.Pointers.{pointerAt, partAt, cellAt}
 
 -- a cell that is accepted, with its page and its pointer
 pub record Located : Type 0 where
@@ -55,6 +55,12 @@ unfoldable pub locatedOf : Page → ℕ → List ℕ → Answer Refusal Located
 locatedOf page i db = do
   o ← openOf page db
   locatedIn o i db
+
+-- the part of an opened page that begins at the pointer of cell i; no bytes where there is no such cell
+abbrev pub partIn : Open → ℕ → List ℕ → List ℕ
+partIn o i db =
+    pick (liesIn (length db) o)
+    (pick (ltb i (o .cells)) (partAt o (pointerAt o i (pageAt (o .at) (o .size) db)) (pageAt (o .at) (o .size) db)) []) []
 
 -- as the code has it
 abbrev pub locatedAnswer : Answer Refusal Located → LocatedAnswer

@@ -8,7 +8,7 @@ ghost use Rattle.page.specs.Kinds.{pointersEnd};
 ghost use Rattle.page.specs.Open.{onPage};
 ghost use Rattle.cell.specs.Cell.{answerOf};
 ghost use Rattle.cells.specs.Pointers.{pointerAt, outside, cellAt, Fitting};
-ghost use Rattle.cells.specs.Located.{rowNumber, locatedFrom, locatedIn, locatedOf, locatedAnswer};
+ghost use Rattle.cells.specs.Located.{rowNumber, locatedFrom, locatedIn, locatedOf, locatedAnswer, partIn};
 use answers::Fault;
 use answers::Reason;
 use answers::Refusal;
@@ -137,6 +137,25 @@ pub fn cell_at(db: &[u8], page: Page, i: usize) -> LocatedAnswer
         OpenAnswer::Refused(refusal) => LocatedAnswer::Refused(refusal),
         OpenAnswer::Shown(opened) => cell_in(db, opened, i),
     }
+}
+
+// The part of an opened page that begins at the pointer of cell `i`; no bytes where there is no such cell.
+pub fn part_in(db: &[u8], opened: Open, i: usize) -> &[u8]
+    ensures { λ r. ⌜ now r ≡ partIn opened i (now (db .entry)) ⌝ }
+{
+    if !page::lies(db.len(), opened) {
+        return &db[0..0];
+    }
+    if opened.cells <= i {
+        return &db[0..0];
+    }
+    let bytes = place::bytes_of(db, opened.at, opened.size);
+    let start = pointer_at(bytes, opened, i) as usize;
+    let end = opened.end as usize;
+    if end <= start {
+        return &db[0..0];
+    }
+    &bytes[start..end]
 }
 
 // The row number or key of a located cell: 64 bits of two's complement.

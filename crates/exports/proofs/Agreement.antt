@@ -1,13 +1,12 @@
 -- The theorems: a row with its values in a lent table is what single calls answer.
-use Prim.Native.Nat.{ℕ, zero, suc, _+_, _*_, _≤_, _<_}
+use Prim.Native.Nat.{ℕ, zero, suc, _+_, _≤_, _<_}
 use mathlib.Core.Path.{_≡_, refl, sym, ap, _∙_}
-use mathlib.Core.List.{List, _++_}
+use mathlib.Core.List.{List}
 use mathlib.Core.Bool.{Bool, true, false}
 use native.Mathlib.Omega.{arith}
 use lib.Dec.{ltb, eqb}
 use lib.IntN.{ℤ}
-use lib.ListN.{length, take, drop}
-use lib.Seq.{drop-append-add}
+use lib.ListN.{length, drop}
 use borrow.Author.Tests.{eqb-true, ltb-true, ltb-false}
 use Rattle.laws.specs.Pick.{pick}
 use Rattle.laws.proofs.Never.{never}
@@ -16,11 +15,8 @@ use Rattle.reading.specs.declared.Reading.the-variants.{Old as old, File as fil
 use Rattle.answers.specs.declared.Refusal.{Refusal}
 use Rattle.answers.specs.Answer.{Answer, refused, shown}
 use Rattle.columns.specs.declared.Cursor.{Cursor}
-use Rattle.columns.specs.declared.Stepped.{Stepped}
-use Rattle.columns.specs.declared.Stepped.the-variants.{Column, Done}
 use Rattle.columns.specs.declared.Slot.the-variants.{Found}
-use Rattle.columns.specs.Columns.{slotOf, behind, stepOf}
-use Rattle.columns.proofs.Laws.{slot-done, slot-here, slot-next, stepped}
+use Rattle.columns.specs.Columns.{slotOf, behind}
 use Rattle.place.specs.declared.Page.{Page}
 use Rattle.place.specs.Place.{oldPage, filePage}
 use Rattle.page.specs.declared.Open.{Open}
@@ -46,66 +42,19 @@ use Rattle.usual.specs.declared.RowAnswer.the-variants as ra
 use Rattle.usual.specs.Usual as usual
 use Rattle.usual.proofs.Rows.{row-found}
 use Rattle.turns.specs.declared.types.Opened.{Opened}
-use Rattle.turns.specs.declared.types.Value.{Value}
 use Rattle.turns.specs.declared.types.Shown.{Shown}
 use Rattle.turns.specs.Refusals.{accepted}
 use Rattle.turns.specs.Pages.{readingOf, openingBy, openOf}
 use Rattle.turns.specs.Rows.{cellBy, rowOf}
 use Rattle.turns.specs.Shown.{oldShown, fileShown}
-use Rattle.filled.specs.Run.{Run, run, before, wordsOf, valueAt, runFrom, filledBy, over}
+use Rattle.filled.specs.Run.{Run, run, before, wordsOf, valueAt, runFrom, filledBy}
 use Rattle.exports.specs.Calls.{openingOf, rowIn}
 use Rattle.exports.specs.Agreement.{cellIn, shownOf, cellFrom, CellsAgree, RowShows, AsManyAsFit}
 use Rattle.filled.proofs.Filling.{run-done, run-full, run-more}
+use Rattle.filled.proofs.Places.{wordsIn, place-holds, over-run}
 use Rattle.filled.proofs.Checked.{Left, at-first, Next, next, none-left, whole-found}
 use Rattle.exports.proofs.Found.{found-whole}
 use Rattle.turns.proofs.Back.{Behind, page-behind}
-
--- PLACES
-
--- five words behind k times five
-abbrev fiveAt : ℕ → List ℤ → List ℤ
-fiveAt k table = take 5 (drop (5 * k) table)
-
-abbrev wordsIn : Run → List ℤ
-wordsIn (run n c words) = words
-
--- the first value of a run, and the others
-module _ (v : Value) (rest : List ℤ) where
-  first-here : (r : Run) → fiveAt 0 (wordsIn (before 1 (wordsOf v) r) ++ rest) ≡ wordsOf v
-  first-here (run n c words) = refl
-
-  others-behind : (k : ℕ) (r : Run) → fiveAt (suc k) (wordsIn (before 1 (wordsOf v) r) ++ rest) ≡ fiveAt k (wordsIn r ++ rest)
-  others-behind k (run n c words) =
-      let m : 5 * suc k ≡ 5 + 5 * k = omega arith in
-      rw m (ap (take 5) (drop-append-add (wordsOf v) (words ++ rest) (5 * k)))
-
--- place k of a run has the words of column k, whatever stands behind the run
-place-holds : (k places : ℕ) (c : Cursor) (db : List ℕ) (rest : List ℤ) {t at : ℕ} → k < places → slotOf k c db ≡ Found t at
-    → fiveAt k (wordsIn (runFrom places c db) ++ rest) ≡ wordsOf (valueAt (c .reading) t at db)
-place-holds k zero c db rest l e = absurd (omega arith)
-place-holds zero (suc places) c db rest {t} {at} l e = go (stepOf c db) refl
-  where
-    go : (s : Stepped) → stepOf c db ≡ s → fiveAt 0 (wordsIn (runFrom (suc places) c db) ++ rest) ≡ wordsOf (valueAt (c .reading) t at db)
-    go Done d = let m = sym (slot-done c db 0 d) ∙ e in never cc
-    go (Column x on next) d =
-        let f = sym (slot-here c db d) ∙ e in
-        let i : x ≡ t = cc in
-        let j : on ≡ at = cc in
-        rw (run-more places c db d, i, j) (first-here (valueAt (c .reading) t at db) rest (runFrom places next db))
-place-holds (suc k) (suc places) c db rest {t} {at} l e = go (stepOf c db) refl (λ next f. place-holds k places next db rest (omega arith) f)
-  where
-    go : (s : Stepped) → stepOf c db ≡ s
-        → ((next : Cursor) → slotOf k next db ≡ Found t at → fiveAt k (wordsIn (runFrom places next db) ++ rest) ≡ wordsOf (valueAt (next .reading) t at db))
-        → fiveAt (suc k) (wordsIn (runFrom (suc places) c db) ++ rest) ≡ wordsOf (valueAt (c .reading) t at db)
-    go Done d ih = let m = sym (slot-done c db (suc k) d) ∙ e in never cc
-    go (Column x on next) d ih =
-        let q : c .reading ≡ next .reading = ap (λ (y : Cursor). y .reading) (stepped c db d .on) in
-        rw (run-more places c db d, others-behind (valueAt (c .reading) x on db) rest k (runFrom places next db), q)
-        (ih next (sym (slot-next c db d k) ∙ e))
-
--- a table that a run was written over begins with its words
-over-run : (r : Run) (table : List ℤ) → over r table ≡ wordsIn r ++ drop (length (wordsIn r)) table
-over-run (run n c words) table = refl
 
 -- SINGLE CALLS, by the cell that their reading locates
 

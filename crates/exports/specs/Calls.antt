@@ -5,6 +5,8 @@ use lib.Dec.{eqb}
 use lib.IntN.{ℤ}
 use Rattle.laws.specs.Pick.{pick}
 use Rattle.reading.specs.declared.Reading.the-variants.{Old, File}
+use Rattle.answers.specs.declared.Refusal.{Refusal}
+use Rattle.answers.specs.Answer.{Answer}
 use Rattle.header.specs.Header as header
 use Rattle.place.specs.Place.{oldPage, filePage}
 use Rattle.place.specs.Shape.{shapeOf, shapeAnswer}
@@ -19,6 +21,9 @@ use Rattle.row.specs.Found.{foundBy}
 use Rattle.row.specs.Old as old
 use Rattle.row.specs.File as file
 use Rattle.guarded.specs.Guarded as guarded
+use Rattle.spilled.specs.Lent.{Lent}
+use Rattle.spilled.specs.Values as spilled
+use Rattle.spilled.specs.Marked as marked
 use Rattle.usual.specs.declared.RowAnswer.{RowAnswer}
 use Rattle.usual.specs.declared.RowAnswer.the-variants as ra
 use Rattle.usual.specs.Usual as usual
@@ -31,10 +36,13 @@ use Rattle.turns.specs.declared.types.Along.{Along}
 use Rattle.turns.specs.declared.types.Cell.{Cell}
 use Rattle.turns.specs.declared.types.Shown.{Shown}
 use Rattle.turns.specs.declared.types.Row.{Row}
+use Rattle.turns.specs.declared.types.LentValue.{LentValue}
 use Rattle.turns.specs.Pages.{numberOf, readingOf, pageOf, headerBy, pagesBy, headBy, openingBy, openOf}
 use Rattle.turns.specs.Rows.{cursorOf, cellBy, noRow, rowOf}
 use Rattle.turns.specs.Shown.{oldShown, fileShown}
+use Rattle.turns.specs.Lent.{lentShown}
 use Rattle.filled.specs.Run.{Run, runFrom, filledBy, over}
+use Rattle.gathered.specs.Rows.{lentIn}
 
 -- THE DATABASE AND ITS PAGES
 
@@ -107,3 +115,15 @@ fileShownOf number i k db = fileShown (file.shownOf number i k db)
 
 abbrev pub guardedShownOf : ℕ → ℕ → ℕ → List ℕ → Shown
 guardedShownOf number i k db = fileShown (guarded.shownOf number i k db)
+
+-- WITH A GATHER BUFFER of so many bytes lent
+
+abbrev pub fileLentOf : ℕ → ℕ → ℕ → ℕ → List ℕ → LentValue
+fileLentOf number i k room db = lentShown (spilled.valueOf number i k room db)
+
+abbrev pub guardedLentOf : ℕ → ℕ → ℕ → ℕ → List ℕ → LentValue
+guardedLentOf number i k room db = lentShown (marked.valueOf number i k room db)
+
+-- cell i of an opened page, in the page's reading
+abbrev pub cellLent : Opened → ℕ → ℕ → List ℕ → Answer Refusal Lent
+cellLent opened i room db = lentIn (eqb (opened .reading) 2) (openOf opened) i room db

@@ -6,8 +6,14 @@
 ghost use mathlib.Core.Path.{_≡_};
 ghost use Prim.Native.Nat.{_/_};
 ghost use lib.ListN.{length};
+ghost use lib.Dec.{eqb};
+ghost use Rattle.place.specs.Place.{filePage};
+ghost use Rattle.spilled.specs.Lent as lent;
+ghost use Rattle.spilled.specs.Marked as marked;
+ghost use Rattle.turns.specs.Pages.{openOf};
 ghost use Rattle.filled.specs.Run.{filledBy, over};
-ghost use Rattle.exports.specs.Calls.{headerOf, pagesOf, headOf, entryOf, entriesOver, openingOf, rowIn, rowBy, rowOver, oldCell, fileCell, guardedCell, oldRun, fileRun, oldShownOf, fileShownOf, guardedShownOf};
+ghost use Rattle.gathered.specs.Rows.{rowLent, tableLent, bufferLent};
+ghost use Rattle.exports.specs.Calls.{headerOf, pagesOf, headOf, entryOf, entriesOver, openingOf, rowIn, rowBy, rowOver, oldCell, fileCell, guardedCell, oldRun, fileRun, oldShownOf, fileShownOf, guardedShownOf, fileLentOf, guardedLentOf, cellLent};
 use filled::run;
 use filled::whole;
 use reading::Reading;
@@ -19,6 +25,8 @@ use turns::types::Along;
 use turns::types::Cell;
 use turns::types::Filled;
 use turns::types::Header;
+use turns::types::LentRow;
+use turns::types::LentValue;
 use turns::types::Opened;
 use turns::types::Opening;
 use turns::types::PageHead;
@@ -177,4 +185,52 @@ pub extern "C" fn shorgavel_guarded_value(db: &[u8], number: u32, i: usize, k: u
     ensures { λ r. ⌜ r ≡ guardedShownOf number i k (now (db .entry)) ⌝ }
 {
     shown::file_shown(guarded::value(db, number, i, k))
+}
+
+// WITH A GATHER BUFFER LENT, where a payload that spills is gathered: the bytes of a text or a blob are then the buffer's. The
+// buffer is left as it was where nothing is gathered.
+
+#[no_mangle]
+pub extern "C" fn shorgavel_file_value_lent(
+    db: &[u8],
+    number: u32,
+    i: usize,
+    k: usize,
+    buffer: &mut [u8],
+) -> LentValue
+    ensures { λ r. ⌜ (r ≡ fileLentOf number i k (length (now (buffer .entry))) (now (db .entry)))
+        × (now (buffer .exit) ≡ lent.bufferOf (filePage number) i (now (db .entry)) (now (buffer .entry))) ⌝ }
+{
+    turns::lent::lent_shown(spilled::value(db, number, i, k, buffer))
+}
+
+#[no_mangle]
+pub extern "C" fn shorgavel_guarded_value_lent(
+    db: &[u8],
+    number: u32,
+    i: usize,
+    k: usize,
+    buffer: &mut [u8],
+) -> LentValue
+    ensures { λ r. ⌜ (r ≡ guardedLentOf number i k (length (now (buffer .entry))) (now (db .entry)))
+        × (now (buffer .exit) ≡ marked.bufferOf number i (now (db .entry)) (now (buffer .entry))) ⌝ }
+{
+    turns::lent::lent_shown(spilled::marked::value(db, number, i, k, buffer))
+}
+
+// A row with its values, as `shorgavel_row_in` answers it where its payload is whole.
+#[no_mangle]
+pub extern "C" fn shorgavel_row_lent(
+    db: &[u8],
+    opened: Opened,
+    i: usize,
+    table: &mut [i64],
+    buffer: &mut [u8],
+) -> LentRow
+    ensures { λ r. ⌜ (r ≡ rowLent (length (now (table .entry)) / 5) (now (db .entry)) (cellLent opened i (length (now (buffer .entry))) (now (db .entry))))
+        × (now (table .exit) ≡ tableLent (length (now (table .entry)) / 5) (now (db .entry)) (cellLent opened i (length (now (buffer .entry))) (now (db .entry))) (now (table .entry)))
+        × (now (buffer .exit) ≡ bufferLent (eqb (opened .reading) 2) (openOf opened) i (now (db .entry)) (now (buffer .entry))) ⌝ }
+{
+    let guarded = pages::is_guarded(opened.reading);
+    gathered::row_in(db, pages::open_of(opened), guarded, i, table, buffer)
 }

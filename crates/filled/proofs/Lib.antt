@@ -1,3 +1,4 @@
 pub mod Filling
 pub mod Manners
 pub mod Checked
+pub mod Places

@@ -57,6 +57,8 @@ fault-not : (cell : ℕ) (fault : Fault) → faultRow cell fault .number ≡ 0 �
 fault-not cell fa.PointerOutside e = omega arith
 fault-not cell fa.CellCut e = omega arith
 fault-not cell fa.PayloadSpills e = omega arith
+fault-not cell fa.BufferTooShort e = omega arith
+fault-not cell fa.ChainUnfit e = omega arith
 fault-not cell fa.HeaderUnfit e = omega arith
 fault-not cell (fa.TypeReserved column) e = omega arith
 fault-not cell (fa.ValueUnfit column) e = omega arith

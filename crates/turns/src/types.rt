@@ -111,3 +111,20 @@ pub struct Row {
     pub count: usize,
     pub along: Along,
 }
+
+// WITH A GATHER BUFFER LENT
+
+// A value, and the bytes that the place of a text or a blob counts in: 0 is the database's, 1 the buffer's.
+#[repr(C)]
+pub struct LentValue {
+    pub refused: Refused,
+    pub value: Value,
+    pub source: u8,
+}
+
+// A row, and the bytes that its cursor and the places of its values count in.
+#[repr(C)]
+pub struct LentRow {
+    pub row: Row,
+    pub source: u8,
+}

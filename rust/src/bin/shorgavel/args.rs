@@ -1,7 +1,7 @@
 //! The words of the command.
 
 use crate::failure::Failure;
-use shorgavel::Reading;
+use shorgavel::{Notes, Reading};
 use std::ffi::{OsStr, OsString};
 
 const HELP: &str = "\
@@ -19,6 +19,7 @@ Commands:
 
 Options:
   --reading R    old, file or guarded: `rows` shows that reading alone, `page` shows it instead of file
+  --notes        `rows` shows long notes too, which spill to overflow pages; `compare` and `sheet` always do
   --parting      `sheet` shows only the rows in which the readings part
   -h, --help     these words
   -V, --version  the version
@@ -38,7 +39,7 @@ pub enum Order {
     Say(String),
     Header(OsString),
     Page(OsString, u32, Reading),
-    Rows(OsString, Vec<Reading>),
+    Rows(OsString, Vec<Reading>, Option<Notes>),
     Compare(OsString),
     Sheet(OsString, Rows),
 }
@@ -55,6 +56,7 @@ pub enum Rows {
 struct Words {
     plain: Vec<OsString>,
     reading: Option<Reading>,
+    notes: bool,
     parting: bool,
 }
 
@@ -65,6 +67,7 @@ pub fn parse(args: impl Iterator<Item = OsString>) -> Result<Order, Failure> {
         match arg.to_str() {
             Some("-h" | "--help") => return Ok(Order::Say(HELP.to_string())),
             Some("-V" | "--version") => return Ok(Order::Say(format!("shorgavel {}\n", env!("CARGO_PKG_VERSION")))),
+            Some("--notes") => words.notes = true,
             Some("--parting") => words.parting = true,
             Some("--reading") => words.reading = Some(reading(args.next())?),
             Some(option) if option.len() > 1 && option.starts_with('-') => {
@@ -86,7 +89,10 @@ fn order(words: Words) -> Result<Order, Failure> {
     let order = match name.as_str() {
         "header" => Order::Header(next("FILE")?),
         "page" => Order::Page(next("FILE")?, number(&next("N")?)?, words.reading.unwrap_or(Reading::File)),
-        "rows" => Order::Rows(next("FILE")?, words.reading.map_or(Reading::ALL.to_vec(), |one| vec![one])),
+        "rows" => {
+            let readings = words.reading.map_or(Reading::ALL.to_vec(), |one| vec![one]);
+            Order::Rows(next("FILE")?, readings, words.notes.then(Notes::new))
+        }
         "compare" => Order::Compare(next("FILE")?),
         "sheet" => Order::Sheet(next("FILE")?, if words.parting { Rows::Parting } else { Rows::All }),
         _ => return Err(wrong(format!("there is no command {name}"))),
@@ -96,6 +102,9 @@ fn order(words: Words) -> Result<Order, Failure> {
     }
     if words.reading.is_some() && !matches!(order, Order::Page(..) | Order::Rows(..)) {
         return Err(wrong(format!("{name} takes no --reading")));
+    }
+    if words.notes && !matches!(order, Order::Rows(..)) {
+        return Err(wrong(format!("{name} takes no --notes")));
     }
     if words.parting && !matches!(order, Order::Sheet(..)) {
         return Err(wrong(format!("{name} takes no --parting")));

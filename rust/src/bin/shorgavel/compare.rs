@@ -2,7 +2,7 @@
 
 use crate::failure::Failure;
 use crate::input::Database;
-use crate::leaf::{leaves, Count};
+use crate::leaf::{leaves, Count, Lent};
 use crate::out::Out;
 use crate::progress::Progress;
 use crate::reason;
@@ -13,11 +13,12 @@ pub fn show(database: &Database, out: &mut Out) -> Result<(), Failure> {
     let gauge = database.gauge()?;
     let encoding = gauge.header(Reading::File)?.db_text_encoding;
     let mut progress = Progress::new(gauge.pages(Reading::File)?.len());
-    let mut count = Count::default();
+    let (mut count, mut lent) = (Count::default(), Lent::default());
     for leaf in leaves(&gauge)? {
         progress.reach(leaf.number() as usize);
         count.leaf(&leaf);
-        for trio in leaf.doubtful() {
+        for cell in leaf.doubtful() {
+            let trio = leaf.trio(cell, &mut lent);
             count.doubted(&trio);
             for line in reason::lines(&trio, encoding) {
                 writeln!(out, "{line}")?;

@@ -1,6 +1,6 @@
 //! A table leaf in the three readings, for `compare` and `sheet`.
 
-use shorgavel::{Cell, Gauge, Page, Reading, Refusal};
+use shorgavel::{Cell, Gauge, Notes, Page, Reading, Refusal};
 
 pub struct Leaf<'a> {
     old: Page<'a>,
@@ -8,7 +8,14 @@ pub struct Leaf<'a> {
     guarded: Page<'a>,
 }
 
-/// A cell in the three readings.
+/// Where long notes are put together. Each of the two readings that do has its own, since a trio has both at once.
+#[derive(Default)]
+pub struct Lent {
+    file: Notes,
+    guarded: Notes,
+}
+
+/// A cell in the three readings, long notes too.
 pub struct Trio<'a> {
     pub page: u32,
     pub cell: usize,
@@ -48,24 +55,22 @@ impl<'a> Leaf<'a> {
         self.file.len()
     }
 
-    fn trio(&self, cell: usize) -> Trio<'a> {
+    pub fn trio<'n>(&self, cell: usize, lent: &'n mut Lent) -> Trio<'n>
+    where
+        'a: 'n,
+    {
         Trio {
             page: self.number(),
             cell,
             old: self.old.cell(cell),
-            file: self.file.cell(cell),
-            guarded: self.guarded.cell(cell),
+            file: self.file.cell_with(cell, &mut lent.file),
+            guarded: self.guarded.cell_with(cell, &mut lent.guarded),
         }
     }
 
-    pub fn trios(&self) -> impl Iterator<Item = Trio<'a>> + '_ {
-        (0..self.len()).map(|cell| self.trio(cell))
-    }
-
     /// The cells on which guarded shows nothing. Where it does, it alone tells that all agree, so most rows are read once.
-    pub fn doubtful(&self) -> impl Iterator<Item = Trio<'a>> + '_ {
-        let doubted = (0..self.len()).filter(|&cell| self.guarded.cell(cell).is_err());
-        doubted.map(|cell| self.trio(cell))
+    pub fn doubtful(&self) -> impl Iterator<Item = usize> + '_ {
+        (0..self.len()).filter(|&cell| self.guarded.cell(cell).is_err())
     }
 }
 

@@ -4,13 +4,14 @@ use crate::failure::Failure;
 use crate::input::Database;
 use crate::out::Out;
 use crate::progress::Progress;
-use shorgavel::{Gauge, Reading, Refusal, Row, Rows, Value};
+use shorgavel::{Gauge, Notes, Reading, Refusal, Row, Rows, Value};
 
-pub fn show(database: &Database, readings: &[Reading], out: &mut Out) -> Result<(), Failure> {
+/// With notes lent, rows that spill are shown too.
+pub fn show(database: &Database, readings: &[Reading], notes: Option<Notes>, out: &mut Out) -> Result<(), Failure> {
     out.text(b"page cell reading rowid values\n");
     let opened = database.gauge().and_then(|gauge| open(gauge, readings));
     match opened {
-        Ok((rows, pages)) => list(rows, Progress::new(pages), out),
+        Ok((rows, pages)) => list(rows, notes, Progress::new(pages), out),
         Err(refusal) => {
             out.text(b"refused ");
             out.decimal(refusal.number().into());
@@ -28,10 +29,19 @@ fn open<'a>(gauge: Gauge<'a>, readings: &[Reading]) -> Result<(Listed<'a>, usize
 }
 
 /// The readings go through the same cells, side by side.
-fn list(mut listed: Listed<'_>, mut progress: Progress, out: &mut Out) -> Result<(), Failure> {
+fn list(
+    mut listed: Listed<'_>,
+    mut notes: Option<Notes>,
+    mut progress: Progress,
+    out: &mut Out,
+) -> Result<(), Failure> {
     loop {
         for (reading, rows) in &mut listed {
-            let Some(row) = rows.next() else {
+            let next = match &mut notes {
+                Some(notes) => rows.next_with(notes),
+                None => rows.next(),
+            };
+            let Some(row) = next else {
                 return Ok(());
             };
             progress.reach(row.page as usize);

@@ -45,7 +45,7 @@ fn show(order: Order, out: &mut Out) -> Result<(), Failure> {
         }
         Order::Header(file) => header::show(&Database::read(&file)?, out),
         Order::Page(file, number, reading) => page::show(&Database::read(&file)?, number, reading, out),
-        Order::Rows(file, readings) => lines::show(&Database::read(&file)?, &readings, out),
+        Order::Rows(file, readings, notes) => lines::show(&Database::read(&file)?, &readings, notes, out),
         Order::Compare(file) => compare::show(&Database::read(&file)?, out),
         Order::Sheet(file, rows) => sheet::show(&Database::read(&file)?, rows, out),
     }

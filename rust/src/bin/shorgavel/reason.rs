@@ -59,13 +59,14 @@ fn differ(place: &str, old: &Cell<'_>, file: &Cell<'_>, guarded: Refusal, encodi
     lines
 }
 
-/// Why one value differs. With a lower mark columns may be shifted, and a value tells nothing by itself.
+/// Why one value differs. With marks 1 and 2 columns may be shifted, and a value tells nothing by itself.
 fn of_value(mark: Option<Mark>, wrote: Value<'_>) -> Option<&'static str> {
     match (mark?, wrote) {
         (Mark::LongVarint | Mark::LongHeaderSize, _) => None,
-        (_, Value::Integer(_)) => Some("type 9"),
-        (_, Value::Text(_)) => Some("an empty text"),
-        (_, Value::Blob(_)) => Some("an empty blob"),
-        (_, Value::Null | Value::Real(_)) => None,
+        (Mark::TypeNine, Value::Integer(1)) => Some("type 9"),
+        (_, Value::Text([])) => Some("an empty text"),
+        (_, Value::Blob([])) => Some("an empty blob"),
+        // In a row that is whole nothing else differs: old looks for this value where the payload goes on elsewhere.
+        _ => Some(Mark::Spills.meaning()),
     }
 }

@@ -1,6 +1,6 @@
 //! How a page's values are laid out.
 
-use crate::leaf::Leaf;
+use crate::leaf::{Leaf, Lent};
 use crate::out::Out;
 use crate::words;
 use shorgavel::{Cell, TextEncoding};
@@ -24,13 +24,16 @@ pub enum Form {
 }
 
 impl Form {
-    pub fn of(leaf: &Leaf<'_>, encoding: TextEncoding) -> Form {
+    pub fn of(leaf: &Leaf<'_>, lent: &mut Lent, encoding: TextEncoding) -> Form {
         let mut widths = vec![0];
-        for cell in leaf.trios().flat_map(|trio| [trio.old, trio.file]).flatten() {
-            if cell.columns() * SPACE * 3 > WIDTH {
-                return Form::Flow;
+        for cell in 0..leaf.len() {
+            let trio = leaf.trio(cell, lent);
+            for shown in [trio.old, trio.file].into_iter().flatten() {
+                if shown.columns() * SPACE * 3 > WIDTH {
+                    return Form::Flow;
+                }
+                measure(&shown, encoding, &mut widths);
             }
-            measure(&cell, encoding, &mut widths);
         }
         widths.iter_mut().for_each(|width| *width += SPACE);
         let total: usize = widths.iter().sum();

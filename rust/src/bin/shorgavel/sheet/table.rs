@@ -5,7 +5,7 @@
 
 use super::form::Form;
 use super::html::{self, grouped};
-use crate::leaf::{Leaf, Trio};
+use crate::leaf::{Leaf, Lent, Trio};
 use crate::out::Out;
 use crate::words;
 use shorgavel::{Cell, Refusal, TextEncoding, Value};
@@ -16,21 +16,21 @@ const PLACE: usize = 12;
 const TWO_PLACES: usize = 28;
 
 /// All rows of a page, in a table of its own.
-pub fn page(leaf: &Leaf<'_>, encoding: TextEncoding, out: &mut Out) -> io::Result<()> {
+pub fn page(leaf: &Leaf<'_>, lent: &mut Lent, encoding: TextEncoding, out: &mut Out) -> io::Result<()> {
     if leaf.len() == 0 {
         return Ok(());
     }
     let noun = if leaf.len() == 1 { "row" } else { "rows" };
     let mut caption = format!("<b>Page {}</b> {} {noun}", leaf.number(), grouped(leaf.len()));
-    match leaf.doubtful().filter(Trio::parts).count() {
+    match leaf.doubtful().filter(|&cell| leaf.trio(cell, lent).parts()).count() {
         0 => {}
         parted => caption.push_str(&format!(", <span class=\"d\">{} part</span>", grouped(parted))),
     }
-    let form = Form::of(leaf, encoding);
+    let form = Form::of(leaf, lent, encoding);
     form.head(&caption, &["Cell", "Row"], out)?;
     let mut table = Table { out, form, encoding, words: String::new() };
-    for trio in leaf.trios() {
-        table.row(None, &trio);
+    for cell in 0..leaf.len() {
+        table.row(None, &leaf.trio(cell, lent));
         table.out.pass()?;
     }
     table.out.text(b"</table>\n");
@@ -38,13 +38,21 @@ pub fn page(leaf: &Leaf<'_>, encoding: TextEncoding, out: &mut Out) -> io::Resul
 }
 
 /// The rows of all pages on which the readings part, in one table.
-pub fn parting<'a>(leaves: impl Iterator<Item = Leaf<'a>>, encoding: TextEncoding, out: &mut Out) -> io::Result<()> {
+pub fn parting<'a>(
+    leaves: impl Iterator<Item = Leaf<'a>>,
+    lent: &mut Lent,
+    encoding: TextEncoding,
+    out: &mut Out,
+) -> io::Result<()> {
     Form::Flow.head("<b>Rows that part</b> of all pages", &["Page", "Cell", "Row"], out)?;
     let mut table = Table { out, form: Form::Flow, encoding, words: String::new() };
     for leaf in leaves {
-        for trio in leaf.doubtful().filter(Trio::parts) {
-            table.row(Some(trio.page), &trio);
-            table.out.pass()?;
+        for cell in leaf.doubtful() {
+            let trio = leaf.trio(cell, lent);
+            if trio.parts() {
+                table.row(Some(trio.page), &trio);
+                table.out.pass()?;
+            }
         }
     }
     table.out.text(b"</table>\n");

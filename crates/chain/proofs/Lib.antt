@@ -1,0 +1,6 @@
+pub mod Copies
+pub mod Sizes
+pub mod Steps
+pub mod Following
+pub mod Payloads
+pub mod Laws

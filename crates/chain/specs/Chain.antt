@@ -1,0 +1,49 @@
+-- An overflow chain. File format, 1.7 "Cell Payload Overflow Pages": "The first four bytes of each overflow page are a
+-- big-endian integer which is the page number of the next page in the chain, or zero for the final page in the chain. The
+-- fifth byte through the last usable byte are used to hold overflow content."
+use Prim.Native.Nat.{ℕ, zero, suc, _+_, _-_}
+use mathlib.Core.List.{List, [], _++_}
+use lib.Dec.{ltb, eqb}
+use lib.ListN.{length, take, drop}
+use Rattle.laws.specs.Pick.{pick}
+use Rattle.fields.specs.Fields.{unsigned}
+use Rattle.answers.specs.declared.Fault.{Fault}
+use Rattle.answers.specs.declared.Fault.the-variants as fa
+use Rattle.answers.specs.Answer.{Answer, refused, shown, _>>=_}
+use Rattle.kinds.specs.declared.Kind.{Kind}
+use Rattle.place.specs.declared.Shape.{Shape}
+use Rattle.place.specs.declared.Place.{Place}
+use Rattle.place.specs.declared.Place.the-variants.{At, Absent}
+use Rattle.place.specs.Place.{filePage, placeOf}
+use Rattle.chain.specs.Kept.{keptOf, linksOf}
+
+-- where a page of a chain lies
+abbrev pub linkBy : Place → Answer Fault ℕ
+linkBy Absent = refused fa.ChainUnfit
+linkBy (At at from) = shown at
+
+abbrev pub linkAt : Shape → ℕ → List ℕ → Answer Fault ℕ
+linkAt shape number db = linkBy (placeOf (filePage number) (length db) (shape .«page_size»))
+
+-- the content of n pages of a chain, from the page of that number on; behind the last the chain ends
+unfoldable pub chainOf : ℕ → Shape → ℕ → List ℕ → Answer Fault (List ℕ)
+chainOf zero shape number db = pick (eqb number 0) (shown []) (refused fa.ChainUnfit)
+chainOf (suc n) shape number db = do
+  at ← linkAt shape number db
+  rest ← chainOf n shape (unsigned 4 (drop at db)) db
+  shown (take (shape .end - 4) (drop (at + 4) db) ++ rest)
+
+-- behind what stays on the page, the number of the first page of the chain
+abbrev pub chainFrom : ℕ → Shape → ℕ → List ℕ → List ℕ → Answer Fault (List ℕ)
+chainFrom kept shape p s db = chainOf (linksOf (shape .end) (p - kept)) shape (unsigned 4 (drop kept s)) db
+
+abbrev pub payloadFrom : ℕ → Shape → ℕ → ℕ → List ℕ → List ℕ → Answer Fault (List ℕ)
+payloadFrom kept shape room p s db =
+    pick (ltb room p) (refused fa.BufferTooShort)
+    (pick (ltb (length s) (kept + 4)) (refused fa.CellCut)
+    (chainFrom kept shape p s db >>= (λ rest. shown (take p (take kept s ++ rest)))))
+
+-- a payload of p bytes that spills, gathered in a buffer with that room: s are the bytes behind the numbers of its cell, of
+-- kind k. What stays on the page, and then the chain's, as far as p goes
+unfoldable pub payloadOf : Kind → Shape → ℕ → ℕ → List ℕ → List ℕ → Answer Fault (List ℕ)
+payloadOf k shape room p s db = payloadFrom (keptOf k (shape .end) p) shape room p s db

@@ -1,0 +1,5 @@
+pub mod Kept
+pub mod Chain
+pub mod Gathered
+pub mod Copied
+pub mod Length

@@ -1,0 +1,189 @@
+// The overflow chain of a payload that spills: how much of it stays on its page, and the pages that hold the rest.
+//
+// From the file format, 1.6 "B-tree Pages" and 1.7 "Cell Payload Overflow Pages". A chain has as many pages as the payload's
+// size says, so one that runs in a circle ends too; it is followed to its end before a byte of it is copied, so that a
+// buffer is left as it was where the chain is refused.
+ghost use mathlib.Core.Path.{_≡_};
+ghost use mathlib.Core.Bool.{true};
+ghost use Prim.Native.Nat.{min, _+_, _-_, _*_, _/_, _≤_};
+ghost use lib.ListN.{length, take};
+ghost use Rattle.answers.specs.declared.Refusal.the-variants.{InCell};
+ghost use Rattle.chain.specs.declared.GatherAnswer.the-variants.{Refused};
+ghost use Rattle.chain.specs.Kept.{leastKept, keptOf, linksOf};
+ghost use Rattle.chain.specs.Chain.{chainOf, payloadOf};
+ghost use Rattle.chain.specs.Gathered.{gatheredIn, heldBy, bufferBy, payloadAnswer, gatherAnswer};
+ghost use Rattle.chain.specs.Copied.{Shaped, whole, content, laidAt};
+use answers::Fault;
+use answers::Refusal;
+use cell::Numbers;
+use cell::NumbersAnswer;
+use cell::Payload;
+use fields::be_u32;
+use kinds::Kind;
+use page::Open;
+use parts::less;
+use place::Place;
+use place::Shape;
+use place::ShapeAnswer;
+use reading::Reading;
+use varint::Number;
+
+pub enum GatherAnswer {
+    // The numbers of the cell, and how many bytes its payload has.
+    Gathered { numbers: Numbers, size: usize },
+    Refused(Refusal),
+}
+
+fn in_cell(page: u32, cell: usize, fault: Fault) -> GatherAnswer
+    ensures { λ r. ⌜ r ≡ Refused (InCell page cell fault) ⌝ }
+{
+    GatherAnswer::Refused(Refusal::InCell { page, cell, fault })
+}
+
+fn least(a: usize, b: usize) -> usize
+    ensures { λ r. ⌜ r ≡ min a b ⌝ }
+{
+    if a < b { a } else { b }
+}
+
+// The least that stays on the page of a payload that spills.
+fn least_kept(usable: u32) -> u64
+    ensures { λ r. ⌜ r ≡ leastKept usable ⌝ }
+{
+    less(less(usable as u64, 12) * 32 / 255, 23)
+}
+
+// How much of a payload of `p` bytes stays on the page.
+fn kept_of(kind: Kind, usable: u32, p: u64) -> u64
+    requires { ⌜ 480 ≤ usable ⌝ }
+    ensures { λ r. ⌜ r ≡ keptOf kind usable p ⌝ }
+{
+    let least = least_kept(usable);
+    let even = least + less(p, least) % (usable as u64 - 4);
+    if even <= kind.most_whole(usable) {
+        return even;
+    }
+    least
+}
+
+// How many overflow pages hold `n` bytes.
+fn links_of(usable: u32, n: u64) -> u64
+    requires { ⌜ 480 ≤ usable ⌝ }
+    ensures { λ r. ⌜ r ≡ linksOf usable n ⌝ }
+{
+    let width = usable as u64 - 4;
+    if n % width == 0 {
+        return n / width;
+    }
+    n / width + 1
+}
+
+// Whether so many pages of a chain lie in the file, and it ends behind them.
+fn is_whole(db: &[u8], shape: Shape, first: u32, links: u64) -> bool
+    requires { ⌜ Shaped shape ⌝ }
+    ensures { λ r. ⌜ r ≡ whole (chainOf links shape first (now (db .entry))) ⌝ }
+{
+    let mut number = first;
+    let mut left = links;
+    while 0 < left {
+        let place = place::place_of(db.len(), shape, place::file(number));
+        let Place::At { at, from: _ } = place else {
+            return false;
+        };
+        number = be_u32(&db[at..]);
+        left -= 1;
+    }
+    number == 0
+}
+
+// Lays bytes over those of a buffer from `at` on.
+fn lay(bytes: &[u8], at: usize, buffer: &mut [u8])
+    requires { ⌜ at + length (now bytes) ≤ length (now buffer) ⌝ }
+    ensures { λ _. ⌜ now (buffer .exit) ≡ laidAt at (now (bytes .entry)) (now (buffer .entry)) ⌝ }
+{
+    bytes::copy(bytes, &mut buffer[at..]);
+}
+
+// Copies the content of a chain behind the first `at` bytes of a buffer, up to `size` bytes of it.
+fn follow(
+    db: &[u8],
+    shape: Shape,
+    first: u32,
+    links: u64,
+    at: usize,
+    size: usize,
+    buffer: &mut [u8],
+)
+    requires { ⌜ Shaped shape × (at ≤ size) × (size ≤ length (now buffer))
+        × (whole (chainOf links shape first (now db)) ≡ true) ⌝ }
+    ensures { λ _. ⌜ now (buffer .exit)
+        ≡ laidAt at (take (size - at) (content (chainOf links shape first (now (db .entry))))) (now (buffer .entry)) ⌝ }
+{
+    let width = shape.end as usize - 4;
+    let mut number = first;
+    let mut left = links;
+    let mut here = at;
+    while 0 < left {
+        let place = place::place_of(db.len(), shape, place::file(number));
+        let Place::At { at: start, from: _ } = place else {
+            return;
+        };
+        let n = least(width, size - here);
+        let end = start + 4 + n;
+        lay(&db[start + 4..end], here, buffer);
+        number = be_u32(&db[start..]);
+        here += n;
+        left -= 1;
+    }
+}
+
+// The payload of `p` bytes of a cell of that kind, whose bytes behind its numbers are `s`.
+fn gather(db: &[u8], shape: Shape, kind: Kind, p: u64, s: &[u8], buffer: &mut [u8]) -> Payload
+    requires { ⌜ Shaped shape ⌝ }
+    ensures { λ r. ⌜ (r ≡ payloadAnswer (payloadOf kind shape (length (now (buffer .entry))) p (now (s .entry)) (now (db .entry))))
+        × (now (buffer .exit) ≡ heldBy (payloadOf kind shape (length (now (buffer .entry))) p (now (s .entry)) (now (db .entry))) (now (buffer .entry))) ⌝ }
+{
+    if (buffer.len() as u64) < p {
+        return Payload::Faulty(Fault::BufferTooShort);
+    }
+    let kept = kept_of(kind, shape.end, p);
+    if (s.len() as u64) < kept + 4 {
+        return Payload::Faulty(Fault::CellCut);
+    }
+    let first = be_u32(&s[kept as usize..]);
+    let links = links_of(shape.end, less(p, kept));
+    if !is_whole(db, shape, first, links) {
+        return Payload::Faulty(Fault::ChainUnfit);
+    }
+    let size = p as usize;
+    let own = least(kept as usize, size);
+    lay(&s[0..own], 0, buffer);
+    follow(db, shape, first, links, own, size, buffer);
+    Payload::Whole(size)
+}
+
+// Gathers the payload of cell `i` of an opened page in a buffer that is lent, where it spills.
+pub fn gather_in(db: &[u8], opened: Open, i: usize, buffer: &mut [u8]) -> GatherAnswer
+    ensures { λ r. ⌜ (r ≡ gatherAnswer (gatheredIn opened i (length (now (buffer .entry))) (now (db .entry))))
+        × (now (buffer .exit) ≡ bufferBy (gatheredIn opened i (length (now (buffer .entry))) (now (db .entry))) (now (buffer .entry))) ⌝ }
+{
+    let page = opened.page;
+    let kind = opened.kind;
+    let shaped = place::shape_of(db, Reading::File);
+    match shaped {
+        ShapeAnswer::Refused(flaw) => GatherAnswer::Refused(Refusal::OfDatabase(flaw)),
+        ShapeAnswer::Shown(shape) => {
+            let s = cells::part_in(db, opened, i);
+            let NumbersAnswer::Read(numbers) = cell::numbers_of(s, Reading::File, kind) else {
+                return in_cell(page.number, i, Fault::CellCut);
+            };
+            let size: Number = numbers.size;
+            let from = numbers.length;
+            let payload = gather(db, shape, kind, size.value, &s[from..], buffer);
+            match payload {
+                Payload::Faulty(fault) => in_cell(page.number, i, fault),
+                Payload::Whole(n) => GatherAnswer::Gathered { numbers, size: n },
+            }
+        }
+    }
+}

@@ -1,0 +1,3 @@
+pub mod Found
+pub mod Rows
+pub mod Agreement

@@ -1,0 +1,49 @@
+-- The marks of the types in the payload, and the fifth where there is none of them.
+use mathlib.Core.Path.{_≡_, sym, ap, _∙_}
+use denote.Ref.{now}
+use Rattle.spilled.specs.Marked.{orSpilled}
+use Rattle.spilled.specs.Steps.{markOver}
+use borrow.Author.Needs.{needs}
+use Rattle.spilled.proofs.marked.mark_of.Statement.{statement}
+use Rattle.spilled.proofs.marked.mark_of.Tie as tie
+
+header-bytes-requires : tie.Need-header-bytes-requires
+header-bytes-requires c κs = search needs
+
+part-requires : tie.Need-part-requires
+part-requires c κs = search needs
+
+limit-of-requires : tie.Need-limit-of-requires
+limit-of-requires c κs = search needs
+
+mark-of-requires : tie.Need-mark-of-requires
+mark-of-requires c κs = search needs
+
+enum-told : tie.Need-enum-told
+enum-told c = search needs
+
+enum-known-lowest : tie.Need-enum-known-lowest
+enum-known-lowest c = search needs
+
+-- what was looked for, in the types of the payload
+looked : (c : tie.After-mark-of) → let a = c .before .before .before .before .before .before .before .before .before .before .args in c .mark-of .result ≡ markOver (a .found) (now (a .payload))
+looked c = rw (c .before .before .part .ensures, c .before .before .before .header-bytes .ensures, c .before .limit-of .ensures) at (c .mark-of .ensures)
+
+returns : tie.Need-returns
+returns c = ap orSpilled (sym (c .enum-told .given .1) ∙ looked (c .before .before))
+
+returns-2 : tie.Need-returns-2
+returns-2 c = ap orSpilled (sym (c .before .lowest .given .1) ∙ looked (c .before .before .before))
+
+pub mark-of-spec : {M : Type 1} → statement M
+mark-of-spec =
+    tie.close
+    (tie.spec
+    header-bytes-requires
+    part-requires
+    limit-of-requires
+    mark-of-requires
+    enum-told
+    enum-known-lowest
+    returns
+    returns-2)

@@ -1,0 +1,115 @@
+// The guarded reading with a gather buffer lent. A spilled cell that the file reading accepts is refused with its lowest mark
+// of five, so whatever is shown lies in the database.
+ghost use mathlib.Core.Path.{_≡_};
+ghost use Prim.Native.Nat.{_-_};
+ghost use lib.ListN.{length};
+ghost use Rattle.row.specs.Found.{foundBy};
+ghost use Rattle.chain.specs.Gathered.{gatheredIn, bufferBy};
+ghost use Rattle.spilled.specs.Marked.{orSpilled, markedIn, lentIn, bufferIn, lentOf, bufferOf, valueOf};
+ghost use Rattle.spilled.specs.Steps.{markOver};
+use crate::LentAnswer;
+use crate::Source;
+use crate::ValueAnswer;
+use answers::Fault;
+use answers::Mark;
+use answers::Refusal;
+use marks::Marking;
+use page::Open;
+use page::OpenAnswer;
+use reading::Reading;
+use row::FoundAnswer;
+use row::FoundCell;
+use varint::Number;
+
+// The lowest mark of a spilled cell whose payload is `payload`.
+fn mark_of(payload: &[u8], found: FoundCell) -> Mark
+    ensures { λ r. ⌜ r ≡ orSpilled (markOver found (now (payload .entry))) ⌝ }
+{
+    let cell = found.cell;
+    let numbers = cell.numbers;
+    let size: Number = numbers.size;
+    let key: Number = numbers.key;
+    let header: Number = cell.header;
+    let len = header_bytes(cell.values, header.length);
+    let types = parts::part(payload, header.length, len);
+    let lowest = marks::mark_of(
+        types,
+        reading::limit_of(Reading::File),
+        size.length,
+        key.length,
+        header.length,
+    );
+    match lowest {
+        Marking::Clear => Mark::Spilled,
+        Marking::By(mark) => mark,
+    }
+}
+
+// How many bytes of types stand before the values.
+fn header_bytes(values: usize, own: usize) -> usize
+    ensures { λ r. ⌜ r ≡ values - own ⌝ }
+{
+    if values < own { 0 } else { values - own }
+}
+
+// Why a spilled cell is refused: as the file reading refuses it, or with its mark.
+pub fn marked_in(db: &[u8], opened: Open, i: usize, buffer: &mut [u8]) -> Refusal
+    ensures { λ r. ⌜ (r ≡ markedIn opened i (length (now (buffer .entry))) (now (db .entry)))
+        × (now (buffer .exit) ≡ bufferBy (gatheredIn opened i (length (now (buffer .entry))) (now (db .entry))) (now (buffer .entry))) ⌝ }
+{
+    let answer = crate::spilled_in(db, opened, i, buffer);
+    match answer {
+        LentAnswer::Refused(refusal) => refusal,
+        LentAnswer::Shown { found, source: _ } => {
+            let page = found.page;
+            let cell = found.cell;
+            let mark = mark_of(parts::part(buffer, 0, cell.payload), found);
+            Refusal::InCell {
+                page: page.number,
+                cell: i,
+                fault: Fault::Marked(mark),
+            }
+        }
+    }
+}
+
+// Cell `i` of an opened page.
+pub fn found_in(db: &[u8], opened: Open, i: usize, buffer: &mut [u8]) -> FoundAnswer
+    ensures { λ r. ⌜ (r ≡ foundBy (lentIn opened i (length (now (buffer .entry))) (now (db .entry))))
+        × (now (buffer .exit) ≡ bufferIn opened i (now (db .entry)) (now (buffer .entry))) ⌝ }
+{
+    let answer = guarded::found_in(db, opened, i);
+    match answer {
+        FoundAnswer::Shown(_) => answer,
+        FoundAnswer::Refused(refusal) => {
+            if crate::spills_by(refusal) {
+                return FoundAnswer::Refused(marked_in(db, opened, i, buffer));
+            }
+            answer
+        }
+    }
+}
+
+// Cell `i` of the table leaf of that number.
+pub fn found(db: &[u8], number: u32, i: usize, buffer: &mut [u8]) -> FoundAnswer
+    ensures { λ r. ⌜ (r ≡ foundBy (lentOf number i (length (now (buffer .entry))) (now (db .entry))))
+        × (now (buffer .exit) ≡ bufferOf number i (now (db .entry)) (now (buffer .entry))) ⌝ }
+{
+    let answer = guarded::open_page(db, number);
+    match answer {
+        OpenAnswer::Refused(refusal) => FoundAnswer::Refused(refusal),
+        OpenAnswer::Shown(opened) => found_in(db, opened, i, buffer),
+    }
+}
+
+// Column `k` of the cell.
+pub fn value(db: &[u8], number: u32, i: usize, k: usize, buffer: &mut [u8]) -> ValueAnswer
+    ensures { λ r. ⌜ (r ≡ valueOf number i k (length (now (buffer .entry))) (now (db .entry)))
+        × (now (buffer .exit) ≡ bufferOf number i (now (db .entry)) (now (buffer .entry))) ⌝ }
+{
+    let answer = found(db, number, i, buffer);
+    crate::shown_from(
+        row::file::shown(db, row::column_of(db, answer, k)),
+        Source::Database,
+    )
+}

@@ -1,0 +1,112 @@
+"""The calls that are lent a gather buffer, asked by oracle/lent.c over the static library.
+
+Standard input: for a database the word 1, its length and its bytes; for a question the word 2 and seven words: reading,
+page, cell, column, the buffer's room, the table's places, and the byte that the buffer is filled with. An answer has the
+words that `Answer` names, then the bytes of the buffer up to the last that is not as it was filled, and six words for each
+column.
+"""
+import os
+import platform
+import shutil
+import struct
+import subprocess
+from collections import namedtuple
+from pathlib import Path
+
+ROOT = Path(__file__).resolve().parent.parent
+WORK = ROOT / "target" / "lent"
+OLD, FILE, GUARDED = 0, 1, 2
+
+Asked = namedtuple("Asked", "reading page cell column room places fill")
+Value = namedtuple("Value", "kind width integer bits at len")
+# A refusal is number, mark, cell and column. `plain` has those of the calls lent no buffer: cell, value and row. The flags
+# say whether the value call left the same buffer, whether the row is what shorgavel_row_in says, and whether the table
+# behind the values and the bytes behind the buffer are as they were.
+Answer = namedtuple(
+    "Answer",
+    "opening refused number columns count along source column column_value column_source same_buffer"
+    " plain as_row_in table_kept behind_kept buffer values",
+)
+WORDS = struct.Struct("<4Q 4QqQQ4QQ 4QQQqQQQQQ 12Q QQQ Q")
+VALUE = struct.Struct("<QQqQQQ")
+
+
+def machine():
+    """The compiler for x86-64, and what its programs are run by, as in bin/c-test."""
+    if platform.machine() == "x86_64":
+        return "gcc", []
+    home = os.environ.get("RATTLE_HOME") or Path(shutil.which("rt") or "rt").resolve().parent.parent
+    return "x86_64-linux-gnu-gcc", [f"{home}/on/{platform.machine()}/toolchain/bin/qemu-x86_64"]
+
+
+def library():
+    """The static library in the folder that SHORGAVEL_LIBRARY names, else one that is proved and built."""
+    folder = os.environ.get("SHORGAVEL_LIBRARY")
+    if folder:
+        return Path(folder) / "libexports.a"
+    words = ["rt", "staticlib", "exports"]
+    done = subprocess.run(words, cwd=ROOT, stdin=subprocess.DEVNULL, capture_output=True, text=True)
+    if done.returncode != 0:
+        raise OSError(f"{done.stdout}{done.stderr}exports is not proved, and is not linked")
+    return ROOT / "target" / "staticlib" / "libexports.a"
+
+
+def built():
+    """The command that answers."""
+    WORK.mkdir(parents=True, exist_ok=True)
+    compiler, under = machine()
+    flags = ["-std=c11", "-Wall", "-Wextra", "-Werror", "-O2", "-static", "-I", ROOT / "include"]
+    subprocess.run([compiler, *flags, "-o", WORK / "lent", ROOT / "oracle" / "lent.c", library()], check=True)
+    return [*under, str(WORK / "lent")]
+
+
+def database(data):
+    return struct.pack("<QQ", 1, len(data)) + data
+
+
+def question(asked):
+    return struct.pack("<8Q", 2, *asked)
+
+
+def answers(command, stream, asked):
+    """The answers to questions, one by one. The stream is a file's name, so that neither side waits for the other."""
+    with open(stream, "rb") as given, subprocess.Popen(command, stdin=given, stdout=subprocess.PIPE) as run:
+        for one in asked:
+            yield answer(run.stdout, one)
+        if run.stdout.read(1):
+            raise OSError("there are more answers than questions")
+    if run.returncode:
+        raise OSError(f"{command[-1]} ended in status {run.returncode}")
+
+
+def answer(source, asked):
+    words = WORDS.unpack(taken(source, WORDS.size))
+    buffer = taken(source, words[-1])
+    (columns,) = struct.unpack("<Q", taken(source, 8))
+    values = [Value(*one) for one in VALUE.iter_unpack(taken(source, columns * VALUE.size))]
+    return Answer(
+        opening=words[0:4],
+        refused=words[4:8],
+        number=words[8],
+        columns=words[9],
+        count=words[10],
+        along=words[11:15],
+        source=words[15],
+        column=words[16:20],
+        column_value=Value(*words[20:26]),
+        column_source=words[26],
+        same_buffer=words[27],
+        plain=(words[28:32], words[32:36], words[36:40]),
+        as_row_in=words[40],
+        table_kept=words[41],
+        behind_kept=words[42],
+        buffer=buffer + bytes([asked.fill]) * (asked.room - len(buffer)),
+        values=values,
+    )
+
+
+def taken(source, count):
+    data = source.read(count)
+    if len(data) != count:
+        raise OSError("an answer is cut short")
+    return data
