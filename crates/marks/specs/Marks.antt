@@ -1,5 +1,5 @@
--- The marks of a table leaf record that the file reading accepts: why the old reading need not show the same of it. The
--- four rows are those of docs/READINGS.md; the lowest is given.
+-- The marks of a table leaf record that the file reading accepts: why the old reading need not show the same of it. They are
+-- the first four of docs/READINGS.md, and the lowest is given; the fifth is of a payload that spills (`spilled`).
 use Prim.Native.Nat.{ℕ}
 use mathlib.Core.Bool.{Bool, false, not, _||_}
 use lib.Dec.{ltb, eqb}

@@ -1,7 +1,7 @@
 // The marks of a record: why the old reading need not show what the file reading shows of it.
 //
 // They are looked for in one pass over the types of a record that the file reading accepts, beside how many bytes its
-// other varints took. docs/READINGS.md has the four marks.
+// other varints took. They are the first four of docs/READINGS.md; the fifth is of a payload that spills (`spilled`).
 ghost use mathlib.Core.Path.{_≡_};
 ghost use Rattle.record.specs.Types.{typesOf};
 ghost use Rattle.marks.specs.Marks.{lowestBy, lowest};

@@ -1,7 +1,7 @@
 // One cell with a gather buffer lent: where its payload spills, that is gathered in the buffer and its record read there.
 //
-// A cell that is whole on its page is found there, at the same cost, and the buffer is left as it was. A spilled one is read
-// by the same record reader from other bytes. The guarded reading gives it a mark (`marked`). Texts and blobs are shown as
+// A cell that is whole on its page is found there by `row`, and the buffer is left as it was. A spilled one is read by the
+// same record reader from other bytes. The guarded reading gives it a mark (`marked`). Texts and blobs are shown as
 // part of the database or as part of the buffer; an answer says which.
 pub mod marked;
 
@@ -64,7 +64,7 @@ fn spills_as(fault: Fault) -> bool
 }
 
 // Whether a call that was lent no buffer was refused for a payload that spills.
-pub fn spills_by(refusal: Refusal) -> bool
+fn spills_by(refusal: Refusal) -> bool
     ensures { λ r. ⌜ r ≡ spills refusal ⌝ }
 {
     match refusal {
@@ -120,7 +120,7 @@ fn recorded(payload: &[u8], page: Page, i: usize, numbers: Numbers) -> LentAnswe
 }
 
 // Cell `i` of an opened page, its payload gathered in the buffer.
-pub fn spilled_in(db: &[u8], opened: Open, i: usize, buffer: &mut [u8]) -> LentAnswer
+fn spilled_in(db: &[u8], opened: Open, i: usize, buffer: &mut [u8]) -> LentAnswer
     ensures { λ r. ⌜ (r ≡ gatheredBy (spilledIn opened i (length (now (buffer .entry))) (now (db .entry))))
         × (now (buffer .exit) ≡ bufferBy (gatheredIn opened i (length (now (buffer .entry))) (now (db .entry))) (now (buffer .entry))) ⌝ }
 {

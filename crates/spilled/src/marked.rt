@@ -53,7 +53,7 @@ fn header_bytes(values: usize, own: usize) -> usize
 }
 
 // Why a spilled cell is refused: as the file reading refuses it, or with its mark.
-pub fn marked_in(db: &[u8], opened: Open, i: usize, buffer: &mut [u8]) -> Refusal
+fn marked_in(db: &[u8], opened: Open, i: usize, buffer: &mut [u8]) -> Refusal
     ensures { λ r. ⌜ (r ≡ markedIn opened i (length (now (buffer .entry))) (now (db .entry)))
         × (now (buffer .exit) ≡ bufferBy (gatheredIn opened i (length (now (buffer .entry))) (now (db .entry))) (now (buffer .entry))) ⌝ }
 {
