@@ -13,12 +13,12 @@ use Rattle.answers.specs.declared.Fault.the-variants as fa
 use Rattle.answers.specs.Answer.{Answer, refused, shown, _>>=_}
 use Rattle.kinds.specs.declared.Kind.{Kind}
 use Rattle.place.specs.declared.Shape.{Shape}
-use Rattle.chain.specs.Kept.{keptOf, linksOf}
+use Rattle.kept.specs.Kept.{keptOf, linksOf}
 use Rattle.chain.specs.Chain.{chainFrom, payloadOf}
 use Rattle.chain.specs.Gathered.{laid}
 use Rattle.chain.specs.Copied.{Shaped, whole, content, laidAt}
 use Rattle.chain.proofs.Copies.{laid-on}
-use Rattle.chain.proofs.Sizes.{links-hold}
+use Rattle.kept.proofs.Sizes.{links-hold}
 use Rattle.chain.proofs.Steps.{whole-shown, chain-unfit, chain-length}
 
 module _ (k : Kind) (shape : Shape) (p : ℕ) (s db : List ℕ) where

@@ -15,7 +15,7 @@ use Rattle.place.specs.declared.Shape.{Shape}
 use Rattle.place.specs.declared.Place.{Place}
 use Rattle.place.specs.declared.Place.the-variants.{At, Absent}
 use Rattle.place.specs.Place.{filePage, placeOf}
-use Rattle.chain.specs.Kept.{keptOf, linksOf}
+use Rattle.kept.specs.Kept.{keptOf, linksOf}
 
 -- where a page of a chain lies
 abbrev pub linkBy : Place → Answer Fault ℕ

@@ -1,4 +1,3 @@
-pub mod Kept
 pub mod Chain
 pub mod Gathered
 pub mod Copied

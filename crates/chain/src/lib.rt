@@ -1,15 +1,14 @@
-// The overflow chain of a payload that spills: how much of it stays on its page, and the pages that hold the rest.
+// The overflow chain of a payload that spills: the pages that hold what does not stay on its own, and the payload gathered from them.
 //
-// From the file format, 1.6 "B-tree Pages" and 1.7 "Cell Payload Overflow Pages". A chain has as many pages as the payload's
+// From the file format, 1.7 "Cell Payload Overflow Pages"; how much stays on the page is in `kept`. A chain has as many pages as the payload's
 // size says, so one that runs in a circle ends too; it is followed to its end before a byte of it is copied, so that a
 // buffer is left as it was where the chain is refused.
 ghost use mathlib.Core.Path.{_≡_};
 ghost use mathlib.Core.Bool.{true};
-ghost use Prim.Native.Nat.{min, _+_, _-_, _*_, _/_, _≤_};
+ghost use Prim.Native.Nat.{min, _+_, _-_, _≤_};
 ghost use lib.ListN.{length, take};
 ghost use Rattle.answers.specs.declared.Refusal.the-variants.{InCell};
 ghost use Rattle.chain.specs.declared.GatherAnswer.the-variants.{Refused};
-ghost use Rattle.chain.specs.Kept.{leastKept, keptOf, linksOf};
 ghost use Rattle.chain.specs.Chain.{chainOf, payloadOf};
 ghost use Rattle.chain.specs.Gathered.{gatheredIn, heldBy, bufferBy, payloadAnswer, gatherAnswer};
 ghost use Rattle.chain.specs.Copied.{Shaped, whole, content, laidAt};
@@ -44,38 +43,6 @@ fn least(a: usize, b: usize) -> usize
     ensures { λ r. ⌜ r ≡ min a b ⌝ }
 {
     if a < b { a } else { b }
-}
-
-// The least that stays on the page of a payload that spills.
-fn least_kept(usable: u32) -> u64
-    ensures { λ r. ⌜ r ≡ leastKept usable ⌝ }
-{
-    less(less(usable as u64, 12) * 32 / 255, 23)
-}
-
-// How much of a payload of `p` bytes stays on the page.
-fn kept_of(kind: Kind, usable: u32, p: u64) -> u64
-    requires { ⌜ 480 ≤ usable ⌝ }
-    ensures { λ r. ⌜ r ≡ keptOf kind usable p ⌝ }
-{
-    let least = least_kept(usable);
-    let even = least + less(p, least) % (usable as u64 - 4);
-    if even <= kind.most_whole(usable) {
-        return even;
-    }
-    least
-}
-
-// How many overflow pages hold `n` bytes.
-fn links_of(usable: u32, n: u64) -> u64
-    requires { ⌜ 480 ≤ usable ⌝ }
-    ensures { λ r. ⌜ r ≡ linksOf usable n ⌝ }
-{
-    let width = usable as u64 - 4;
-    if n % width == 0 {
-        return n / width;
-    }
-    n / width + 1
 }
 
 // Whether so many pages of a chain lie in the file, and it ends behind them.
@@ -146,12 +113,12 @@ fn gather(db: &[u8], shape: Shape, kind: Kind, p: u64, s: &[u8], buffer: &mut [u
     if (buffer.len() as u64) < p {
         return Payload::Faulty(Fault::BufferTooShort);
     }
-    let kept = kept_of(kind, shape.end, p);
+    let kept = kept::kept_of(kind, shape.end, p);
     if (s.len() as u64) < kept + 4 {
         return Payload::Faulty(Fault::CellCut);
     }
     let first = be_u32(&s[kept as usize..]);
-    let links = links_of(shape.end, less(p, kept));
+    let links = kept::links_of(shape.end, less(p, kept));
     if !is_whole(db, shape, first, links) {
         return Payload::Faulty(Fault::ChainUnfit);
     }

@@ -9,7 +9,7 @@ use Rattle.answers.specs.Answer.{Answer, refused, shown}
 use Rattle.kinds.specs.declared.Kind.{Kind}
 use Rattle.kinds.specs.declared.Kind.the-variants.{LeafTable, LeafIndex}
 use Rattle.place.specs.declared.Shape.{Shape}
-use Rattle.chain.specs.Kept.{keptOf, linksOf}
+use Rattle.kept.specs.Kept.{keptOf, linksOf}
 use Rattle.chain.specs.Chain.{chainOf}
 
 -- THE CUT: M is 39, X is 477 in a table and 102 in an index, a page of a chain holds 508

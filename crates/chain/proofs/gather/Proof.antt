@@ -8,10 +8,10 @@ use borrow.Author.Tests.{not-true, not-false}
 use denote.Ref.{now}
 use Rattle.laws.proofs.Parts.{tail}
 use Rattle.cell.specs.declared.Payload.the-variants.{Whole}
-use Rattle.chain.specs.Kept.{keptOf}
+use Rattle.kept.specs.Kept.{keptOf}
 use Rattle.chain.specs.Chain.{chainOf}
 use Rattle.chain.specs.Copied.{whole, laidAt}
-use Rattle.chain.proofs.Sizes.{kept-below}
+use Rattle.kept.proofs.Sizes.{kept-below}
 use Rattle.chain.proofs.Payloads.{chain, payload-short, payload-cut, payload-unfit, payload-joined}
 use Rattle.chain.proofs.Payloads.{joined-length, joined-laid}
 use borrow.Author.Needs.{needs}

@@ -1,15 +1,15 @@
 -- How large the numbers of a payload that spills are.
-use Prim.Native.Nat.{ℕ, suc, _+_, _-_, _*_, _/_, _%_, _≤_, _<_}
-use mathlib.Core.Path.{_≡_, refl, ap}
+use Prim.Native.Nat.{ℕ, zero, suc, _+_, _-_, _*_, _/_, _%_, _≤_, _<_}
+use mathlib.Core.Path.{_≡_, refl, ap, _∙_}
 use mathlib.Core.Bool.{Bool, true, false}
-use native.Mathlib.Nat.{add-mul, mod-lt, div-add-mod', lt-div-mul-add}
+use native.Mathlib.Nat.{add-mul, mod-lt, mod-le, mod-zero, mod-one, div-zero, div-lt-self, div-add-mod', lt-div-mul-add}
 use native.Mathlib.Omega.{arith}
 use lib.Dec.{leb, eqb}
 use borrow.Author.Tests.{le-leb, lt-leb, eq-eqb, ne-eqb, eqb-true, eqb-false}
 use Rattle.laws.specs.Pick.{pick}
 use Rattle.kinds.specs.declared.Kind.{Kind}
 use Rattle.kinds.specs.Kind.{mostWhole}
-use Rattle.chain.specs.Kept.{leastKept, evenKept, keptOf, linksOf}
+use Rattle.kept.specs.Kept.{leastKept, evenKept, keptOf, linksOf}
 
 -- WHAT STAYS
 
@@ -39,6 +39,15 @@ kept-below k u p h = go (leb (evenKept u p) (mostWhole k u))
     go false = omega (arith, least-below u)
 
 -- THE PAGES OF A CHAIN
+
+-- where something is over, less pages are filled than there are bytes, of whatever width
+pub fewer-filled : (n w : ℕ) → (n % w ≡ 0 → ⊥) → n / w < n
+fewer-filled n zero h = let some : n ≡ 0 → ⊥ = λ z. h (mod-zero n ∙ z) in rw (div-zero n) (omega (arith, some))
+fewer-filled n (suc zero) h = absurd (h (mod-one n))
+fewer-filled n (suc (suc w)) h =
+    let l = mod-le n (suc (suc w)) in
+    let some : 0 < n = omega (arith, h, l) in
+    div-lt-self some (omega arith)
 
 module _ (u n : ℕ) where
   pub links-even : n % (u - 4) ≡ 0 → linksOf u n ≡ n / (u - 4)
