@@ -23,7 +23,7 @@ use Rattle.row.specs.File as file
 use Rattle.guarded.specs.Guarded as guarded
 use Rattle.spilled.specs.Lent.{Lent}
 use Rattle.spilled.specs.Values as spilled
-use Rattle.spilled.specs.Marked as marked
+use Rattle.marked.specs.Marked as marked
 use Rattle.usual.specs.declared.RowAnswer.{RowAnswer}
 use Rattle.usual.specs.declared.RowAnswer.the-variants as ra
 use Rattle.usual.specs.Usual as usual

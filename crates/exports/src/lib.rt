@@ -9,7 +9,7 @@ ghost use lib.ListN.{length};
 ghost use lib.Dec.{eqb};
 ghost use Rattle.place.specs.Place.{filePage};
 ghost use Rattle.spilled.specs.Lent as lent;
-ghost use Rattle.spilled.specs.Marked as marked;
+ghost use Rattle.marked.specs.Marked as marked;
 ghost use Rattle.turns.specs.Pages.{openOf};
 ghost use Rattle.filled.specs.Run.{filledBy, over};
 ghost use Rattle.gathered.specs.Rows.{rowLent, tableLent, bufferLent};
@@ -215,7 +215,7 @@ pub extern "C" fn shorgavel_guarded_value_lent(
     ensures { λ r. ⌜ (r ≡ guardedLentOf number i k (length (now (buffer .entry))) (now (db .entry)))
         × (now (buffer .exit) ≡ marked.bufferOf number i (now (db .entry)) (now (buffer .entry))) ⌝ }
 {
-    turns::lent::lent_shown(spilled::marked::value(db, number, i, k, buffer))
+    turns::lent::lent_shown(marked::value(db, number, i, k, buffer))
 }
 
 // A row with its values, as `shorgavel_row_in` answers it where its payload is whole.

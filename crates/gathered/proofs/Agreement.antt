@@ -27,11 +27,10 @@ use Rattle.spilled.specs.declared.Source.the-variants.{Database, Buffer}
 use Rattle.spilled.specs.declared.ValueAnswer.{ValueAnswer}
 use Rattle.spilled.specs.Lent.{Spilled, Lent, whole, gathered, cursorOver}
 use Rattle.spilled.specs.Values.{columnIn, from}
-use Rattle.spilled.specs.Marked as marked
-use Rattle.spilled.proofs.Got.{lent-located, lent-got}
+use Rattle.marked.specs.Marked as marked
+use Rattle.spilled.proofs.Got.{lent-located, lent-got, lent-open}
 use Rattle.spilled.proofs.Values.{column-gathered, value-found}
-use Rattle.spilled.proofs.Guarded.{lent-guarded, marked-value}
-use Rattle.spilled.proofs.Agreement.{lent-open, marked-open}
+use Rattle.marked.proofs.Guarded.{lent-guarded, marked-open, marked-value}
 use Rattle.turns.specs.Refusals.{accepted}
 use Rattle.turns.specs.Lent.{lentShown}
 use Rattle.filled.specs.Run.{wordsOf, valueAt, runFrom}

@@ -16,7 +16,7 @@ use Rattle.guarded.specs.Guarded as guarded
 use Rattle.spilled.specs.declared.ValueAnswer.{ValueAnswer}
 use Rattle.spilled.specs.Lent.{Lent, whole, gathered}
 use Rattle.spilled.specs.Values as file
-use Rattle.spilled.specs.Marked as marked
+use Rattle.marked.specs.Marked as marked
 use Rattle.turns.specs.Refusals.{accepted}
 use Rattle.turns.specs.Lent.{lentShown}
 use Rattle.filled.specs.Run.{wordsOf}

@@ -12,7 +12,7 @@ use Rattle.row.specs.declared.FoundCell.{FoundCell}
 use Rattle.row.specs.Found.{cursorIn}
 use Rattle.spilled.specs.Lent as file
 use Rattle.spilled.specs.Lent.{Lent, whole, gathered, cursorOver}
-use Rattle.spilled.specs.Marked as marked
+use Rattle.marked.specs.Marked as marked
 use Rattle.turns.specs.declared.types.Row.{Row}
 use Rattle.turns.specs.declared.types.LentRow.{LentRow}
 use Rattle.turns.specs.Rows.{noRow, rowOf}

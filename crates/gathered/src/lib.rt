@@ -43,7 +43,7 @@ pub fn row_in(
         × (now (buffer .exit) ≡ bufferLent guarded opened i (now (db .entry)) (now (buffer .entry))) ⌝ }
 {
     if guarded {
-        let answer = spilled::marked::found_in(db, opened, i, buffer);
+        let answer = marked::found_in(db, opened, i, buffer);
         match answer {
             FoundAnswer::Refused(refusal) => {
                 return lent_row(rows::no_row(refusal), Source::Database);

@@ -24,7 +24,7 @@ fn show(db: &[u8], i: usize) {
     let answer = spilled::value(db, 2, i, 2, &mut gather);
     print::text(b"  file ");
     shown(db, &gather, answer);
-    let answer = spilled::marked::value(db, 2, i, 2, &mut gather);
+    let answer = marked::value(db, 2, i, 2, &mut gather);
     print::text(b"  guarded ");
     shown(db, &gather, answer);
 }

@@ -121,3 +121,27 @@ module _ (page : Page) (i : ℕ) (db b : List ℕ) where
       go : (x : Answer Refusal Open) → (x >>= (λ o. lentIn o i (length b) db)) ≡ shown (gathered c) → Got c (bufferOn x i db b) b
       go (refused refusal) d = never cc
       go (shown o) d = lent-got o i db b d
+
+-- BY WHAT IS FOUND WITH NO BUFFER
+
+module _ (o : Open) (i room : ℕ) (db : List ℕ) where
+  pub lent-instead : lentIn o i room db ≡ instead whole (spilledIn o i room db >>= (λ c. shown (gathered c))) (locatedIn o i db)
+  unfolding lentIn
+  lent-instead = refl
+
+  pub lent-whole : {l : Located} → locatedIn o i db ≡ shown l → lentIn o i room db ≡ shown (whole l)
+  unfolding lentIn
+  lent-whole e = rw e
+
+  pub lent-refused : {refusal : Refusal} → locatedIn o i db ≡ refused refusal → spills refusal ≡ false → lentIn o i room db ≡ refused refusal
+  unfolding lentIn
+  lent-refused e t = rw (e, t)
+
+module _ (page : Page) (i room : ℕ) (db : List ℕ) where
+  pub lent-open : {o : Open} → openOf page db ≡ shown o → lentOf page i room db ≡ lentIn o i room db
+  unfolding lentOf
+  lent-open e = rw e
+
+  pub lent-unopened : {refusal : Refusal} → openOf page db ≡ refused refusal → lentOf page i room db ≡ refused refusal
+  unfolding lentOf
+  lent-unopened e = rw e

@@ -1,5 +1,3 @@
 pub mod Lent
 pub mod Values
-pub mod Marked
 pub mod Steps
-pub mod Agreement

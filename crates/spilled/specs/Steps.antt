@@ -1,13 +1,7 @@
--- The calls' steps as the code has them: the record of a gathered payload, a value, and a mark.
-use Prim.Native.Nat.{ℕ, _-_}
+-- The calls' steps as the code has them: the record of a gathered payload, and a value.
+use Prim.Native.Nat.{ℕ}
 use mathlib.Core.List.{List}
-use lib.ListN.{take, drop}
-use Rattle.reading.specs.declared.Reading.the-variants.{File as file}
-use Rattle.reading.specs.Reading.{limit}
-use Rattle.record.specs.Types.{typesOf}
 use Rattle.cell.specs.declared.Numbers.{Numbers}
-use Rattle.marks.specs.declared.Marking.{Marking}
-use Rattle.marks.specs.Marks.{lowest}
 use Rattle.place.specs.declared.Page.{Page}
 use Rattle.row.specs.declared.FoundCell.{FoundCell}
 use Rattle.row.specs.declared.FoundAnswer.the-variants as fo
@@ -25,9 +19,3 @@ recordedBy page i n q = gatheredBy (recordedIn page i (record { numbers = n; pay
 -- column k of a cell that was found, in the bytes that its cursor counts in
 abbrev pub valueOver : ℕ → List ℕ → FoundCell → Source → ValueAnswer
 valueOver k bytes found source = from source (shownBy bytes (columnFrom k bytes (fo.Shown found)))
-
--- the lowest mark of a spilled cell, in its payload
-abbrev pub markOver : FoundCell → List ℕ → Marking
-markOver found payload =
-    lowest (found .cell .numbers .size .length) (found .cell .numbers .key .length) (found .cell .header .length)
-    (typesOf (limit file) (take (found .cell .values - found .cell .header .length) (drop (found .cell .header .length) payload)))

@@ -1,10 +1,8 @@
 // One cell with a gather buffer lent: where its payload spills, that is gathered in the buffer and its record read there.
 //
 // A cell that is whole on its page is found there by `row`, and the buffer is left as it was. A spilled one is read by the
-// same record reader from other bytes. The guarded reading gives it a mark (`marked`). Texts and blobs are shown as
+// same record reader from other bytes. The guarded reading gives it a mark: `marked`. Texts and blobs are shown as
 // part of the database or as part of the buffer; an answer says which.
-pub mod marked;
-
 ghost use mathlib.Core.Path.{_≡_};
 ghost use lib.ListN.{length};
 ghost use Rattle.values.specs.Part.{partOf};
@@ -64,7 +62,7 @@ fn spills_as(fault: Fault) -> bool
 }
 
 // Whether a call that was lent no buffer was refused for a payload that spills.
-fn spills_by(refusal: Refusal) -> bool
+pub fn spills_by(refusal: Refusal) -> bool
     ensures { λ r. ⌜ r ≡ spills refusal ⌝ }
 {
     match refusal {
@@ -120,7 +118,7 @@ fn recorded(payload: &[u8], page: Page, i: usize, numbers: Numbers) -> LentAnswe
 }
 
 // Cell `i` of an opened page, its payload gathered in the buffer.
-fn spilled_in(db: &[u8], opened: Open, i: usize, buffer: &mut [u8]) -> LentAnswer
+pub fn spilled_in(db: &[u8], opened: Open, i: usize, buffer: &mut [u8]) -> LentAnswer
     ensures { λ r. ⌜ (r ≡ gatheredBy (spilledIn opened i (length (now (buffer .entry))) (now (db .entry))))
         × (now (buffer .exit) ≡ bufferBy (gatheredIn opened i (length (now (buffer .entry))) (now (db .entry))) (now (buffer .entry))) ⌝ }
 {
@@ -166,7 +164,7 @@ pub fn found(db: &[u8], page: Page, i: usize, buffer: &mut [u8]) -> LentAnswer
     }
 }
 
-fn shown_from(answer: row::file::ValueAnswer, source: Source) -> ValueAnswer
+pub fn shown_from(answer: row::file::ValueAnswer, source: Source) -> ValueAnswer
     ensures { λ r. ⌜ r ≡ from source answer ⌝ }
 {
     match answer {

@@ -6,7 +6,7 @@ use denote.Ref.{now}
 use lib.ListN.{length, take, drop}
 use Rattle.spilled.specs.declared.Source.the-variants.{Database, Buffer}
 use Rattle.spilled.specs.Lent as file
-use Rattle.spilled.specs.Marked as marked
+use Rattle.marked.specs.Marked as marked
 use Rattle.turns.specs.declared.types.Row.{Row}
 use Rattle.turns.specs.Lent.{lentRow}
 use Rattle.gathered.specs.Rows.{rowFrom, tableFrom}

@@ -9,6 +9,7 @@ use Rattle.answers.specs.declared.Refusal.{Refusal}
 use Rattle.answers.specs.declared.Refusal.the-variants.{InCell}
 use Rattle.answers.specs.Answer.{Answer, refused, shown}
 use Rattle.kinds.specs.declared.Kind.the-variants.{LeafTable}
+use Rattle.marks.specs.declared.Marking.{Marking}
 use Rattle.marks.specs.declared.Marking.the-variants.{Clear, By}
 use Rattle.marks.specs.Marks.{markOf}
 use Rattle.place.specs.declared.Page.{Page}
@@ -18,8 +19,8 @@ use Rattle.page.specs.declared.Open.{Open}
 use Rattle.page.specs.Open.{siteOf}
 use Rattle.cells.specs.Located.{Located, locatedOf}
 use Rattle.guarded.specs.Guarded as guarded
-use Rattle.spilled.specs.Lent.{Lent, whole, spills, lentIn, lentOf}
-use Rattle.spilled.specs.Marked as marked
+use Rattle.spilled.specs.Lent.{Lent, whole, gathered, spills, lentIn, lentOf}
+use Rattle.marked.specs.Marked as marked
 
 -- a call that is lent a buffer answers what one that is lent none does, but for 18
 abbrev pub AsWithNone : Type 0
@@ -27,11 +28,16 @@ AsWithNone = (page : Page) (i room : ℕ) (db : List ℕ)
     → ((l : Located) → locatedOf page i db ≡ shown l → lentOf page i room db ≡ shown (whole l))
     × ((refusal : Refusal) → locatedOf page i db ≡ refused refusal → spills refusal ≡ false → lentOf page i room db ≡ refused refusal)
 
+-- the lowest mark of a cell, of five
+abbrev pub lowestOf : Lent → Marking
+lowestOf (whole l) = markOf (l .cell)
+lowestOf (gathered c) = By (marked.orSpilled (markOf (c .cell)))
+
 -- y is refused exactly when x is, as x is, or when what x shows has a mark of five, with the lowest; else it is what x shows
 abbrev pub Judged : Page → ℕ → Answer Refusal Lent → Answer Refusal Located → Type 0
 Judged page i x y =
     ((refusal : Refusal) → x ≡ refused refusal → y ≡ refused refusal)
-    × ((f : Lent) (mark : Mark) → x ≡ shown f → marked.lowestOf f ≡ By mark → y ≡ refused (InCell (page .number) i (fa.Marked mark)))
+    × ((f : Lent) (mark : Mark) → x ≡ shown f → lowestOf f ≡ By mark → y ≡ refused (InCell (page .number) i (fa.Marked mark)))
     × ((l : Located) → x ≡ shown (whole l) → markOf (l .cell) ≡ Clear → y ≡ shown l)
 
 -- on a table leaf guarded refuses exactly when file refuses or the record has a mark

@@ -9,14 +9,14 @@ use Rattle.answers.specs.declared.Mark.{Mark}
 use Rattle.answers.specs.declared.Refusal.the-variants.{InCell}
 use Rattle.answers.specs.Answer.{shown}
 use Rattle.chain.specs.Gathered.{gatheredIn, bufferBy}
 use Rattle.spilled.specs.Lent.{Spilled, spilledIn}
-use Rattle.spilled.specs.Marked.{orSpilled, markedIn}
-use Rattle.spilled.specs.Steps.{markOver}
+use Rattle.marked.specs.Marked.{orSpilled, markedIn}
+use Rattle.marked.specs.Steps.{markOver}
 use Rattle.spilled.proofs.Got.{spilled-got}
-use Rattle.spilled.proofs.Marks.{marked-refused, marked-shown}
+use Rattle.marked.proofs.Marks.{marked-refused, marked-shown}
 use borrow.Author.Needs.{needs}
-use Rattle.spilled.proofs.marked.marked_in.Statement.{statement}
-use Rattle.spilled.proofs.marked.marked_in.Tie as tie
+use Rattle.marked.proofs.marked_in.Statement.{statement}
+use Rattle.marked.proofs.marked_in.Tie as tie
 
 spilled-in-requires : tie.Need-spilled-in-requires
 spilled-in-requires c κs = search needs

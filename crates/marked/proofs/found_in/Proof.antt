@@ -3,11 +3,11 @@ use mathlib.Core.Path.{sym, _∙_}
 use denote.Ref.{now}
 use Rattle.row.proofs.Told.{told-refused}
 use Rattle.guarded.specs.Guarded.{locatedIn}
-use Rattle.spilled.specs.Marked.{lentIn, bufferIn}
+use Rattle.marked.specs.Marked.{lentIn, bufferIn}
 use Rattle.spilled.proofs.Laws.{same-found, kept-found}
 use borrow.Author.Needs.{needs}
-use Rattle.spilled.proofs.marked.found_in.Statement.{statement}
-use Rattle.spilled.proofs.marked.found_in.Tie as tie
+use Rattle.marked.proofs.found_in.Statement.{statement}
+use Rattle.marked.proofs.found_in.Tie as tie
 
 found-in-requires : tie.Need-found-in-requires
 found-in-requires c κs = search needs

@@ -1,14 +1,14 @@
 -- The marks of the types in the payload, and the fifth where there is none of them.
 use mathlib.Core.Path.{_≡_, sym, ap, _∙_}
 use denote.Ref.{now}
-use Rattle.spilled.specs.Marked.{orSpilled}
-use Rattle.spilled.specs.Steps.{markOver}
+use Rattle.marked.specs.Marked.{orSpilled}
+use Rattle.marked.specs.Steps.{markOver}
 use borrow.Author.Needs.{needs}
-use Rattle.spilled.proofs.marked.mark_of.Statement.{statement}
-use Rattle.spilled.proofs.marked.mark_of.Tie as tie
+use Rattle.marked.proofs.mark_of.Statement.{statement}
+use Rattle.marked.proofs.mark_of.Tie as tie
 
-header-bytes-requires : tie.Need-header-bytes-requires
-header-bytes-requires c κs = search needs
+less-requires : tie.Need-less-requires
+less-requires c κs = search needs
 
 part-requires : tie.Need-part-requires
 part-requires c κs = search needs
@@ -27,7 +27,7 @@ enum-known-lowest c = search needs
 
 -- what was looked for, in the types of the payload
 looked : (c : tie.After-mark-of) → let a = c .before .before .before .before .before .before .before .before .before .before .args in c .mark-of .result ≡ markOver (a .found) (now (a .payload))
-looked c = rw (c .before .before .part .ensures, c .before .before .before .header-bytes .ensures, c .before .limit-of .ensures) at (c .mark-of .ensures)
+looked c = rw (c .before .before .part .ensures, c .before .before .before .less .ensures, c .before .limit-of .ensures) at (c .mark-of .ensures)
 
 returns : tie.Need-returns
 returns c = ap orSpilled (sym (c .enum-told .given .1) ∙ looked (c .before .before))
@@ -39,7 +39,7 @@ pub mark-of-spec : {M : Type 1} → statement M
 mark-of-spec =
     tie.close
     (tie.spec
-    header-bytes-requires
+    less-requires
     part-requires
     limit-of-requires
     mark-of-requires

@@ -12,13 +12,13 @@ use Rattle.answers.specs.declared.Refusal.the-variants.{InCell}
 use Rattle.answers.specs.Answer.{Answer, refused, shown}
 use Rattle.record.specs.Record.{typeBytes, valuesAt}
 use Rattle.row.specs.declared.FoundCell.{FoundCell}
 use Rattle.spilled.specs.declared.Source.{Source}
 use Rattle.spilled.specs.declared.LentAnswer.the-variants as le
 use Rattle.spilled.specs.Lent.{Spilled, gatheredBy, foundOver}
-use Rattle.spilled.specs.Marked.{orSpilled, markedBy}
-use Rattle.spilled.specs.Steps.{markOver}
+use Rattle.marked.specs.Marked.{orSpilled, markedBy}
+use Rattle.marked.specs.Steps.{markOver}
 use Rattle.spilled.proofs.Got.{Got}
 use Rattle.spilled.proofs.Values.{got-part}
 
 module _ (i : ℕ) where
   pub marked-refused : (x : Answer Refusal Spilled) {refusal : Refusal} → gatheredBy x ≡ le.Refused refusal → markedBy i x ≡ refusal

@@ -18,19 +18,14 @@ use Rattle.chain.specs.Gathered.{gatheredIn}
 use Rattle.row.specs.Column.{columnBy}
 use Rattle.row.specs.File.{shownBy}
 use Rattle.guarded.specs.Guarded as guarded
 use Rattle.spilled.specs.declared.Source.the-variants.{Database}
 use Rattle.spilled.specs.declared.ValueAnswer.{ValueAnswer}
-use Rattle.spilled.specs.Lent.{Spilled, Lent, whole, gathered, spilledIn, instead, bufferAfter}
+use Rattle.spilled.specs.Lent.{Spilled, spilledIn, instead, bufferAfter}
 use Rattle.spilled.specs.Values.{from}
 
 abbrev pub orSpilled : Marking → Mark
 orSpilled Clear = ma.Spilled
 orSpilled (By mark) = mark
-
--- the lowest mark of a cell, of five
-abbrev pub lowestOf : Lent → Marking
-lowestOf (whole l) = markOf (l .cell)
-lowestOf (gathered c) = By (orSpilled (markOf (c .cell)))
 
 -- why a spilled cell i is refused: as the file reading refuses it, or with its mark
 abbrev pub markedBy : ℕ → Answer Refusal Spilled → Refusal

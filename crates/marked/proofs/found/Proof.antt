@@ -3,10 +3,10 @@ use mathlib.Core.Path.{sym, _∙_}
 use denote.Ref.{now}
 use Rattle.page.proofs.Laws.{open-answered, open-unanswered}
 use Rattle.guarded.specs.Guarded.{openOf}
-use Rattle.spilled.specs.Marked.{lentOf, bufferOf}
+use Rattle.marked.specs.Marked.{lentOf, bufferOf}
 use borrow.Author.Needs.{needs}
-use Rattle.spilled.proofs.marked.found.Statement.{statement}
-use Rattle.spilled.proofs.marked.found.Tie as tie
+use Rattle.marked.proofs.found.Statement.{statement}
+use Rattle.marked.proofs.found.Tie as tie
 
 open-page-requires : tie.Need-open-page-requires
 open-page-requires c κs = search needs

@@ -20,11 +20,11 @@ use Rattle.cells.specs.Located.{Located, locatedIn, locatedOf}
 use Rattle.cells.proofs.Laws.{held, located-open, located-unopened}
 use Rattle.guarded.specs.Guarded as guarded
 use Rattle.guarded.proofs.Guard.{guardedBy, leaf-in, site-leaf, leaf-opened, guarded-in, guarded-open}
 use Rattle.spilled.specs.Lent.{Spilled, whole, gathered, spilledIn, spills, instead, lentIn, lentOf}
-use Rattle.spilled.specs.Marked as marked
-use Rattle.spilled.specs.Agreement.{AsWithNone, Judged, GuardedRefuses, EveryOpenRefuses, GuardedAgrees}
-use Rattle.spilled.proofs.Got.{spilled-page}
-use Rattle.spilled.proofs.Guarded.{lent-guarded}
+use Rattle.marked.specs.Marked as marked
+use Rattle.judged.specs.Agreement.{AsWithNone, Judged, GuardedRefuses, EveryOpenRefuses, GuardedAgrees}
+use Rattle.spilled.proofs.Got.{spilled-page, lent-instead, lent-whole, lent-refused, lent-open, lent-unopened}
+use Rattle.marked.proofs.Guarded.{marked-instead, marked-open, marked-unopened, lent-guarded}
 
 -- AN OPENED PAGE
 
@@ -72,33 +72,14 @@ module _ (o : Open) (i room : ℕ) (db : List ℕ) where
       by false = (λ other e. cc, λ f mark e m. never cc, λ l e m. never cc)
 
   pub every-judged : o .kind ≡ LeafTable → Judged (o .page) i (lentIn o i room db) (marked.lentIn o i room db)
-  unfolding lentIn marked.lentIn marked.markedIn
   every-judged leaf =
-      subst (λ (y : Answer Refusal Located). Judged (o .page) i (lentIn o i room db) (instead (λ k. k) (refused (marked.markedBy i (spilledIn o i room db))) y))
-      (sym (leaf-in o i db (ap guarded.isLeafTable leaf))) (by-located (locatedIn o i db) refl)
+      rw (lent-instead o i room db, marked-instead o i room db, leaf-in o i db (ap guarded.isLeafTable leaf))
+      (by-located (locatedIn o i db) refl)
 
 pub every-open-refuses : EveryOpenRefuses
 every-open-refuses o i room db leaf = every-judged o i room db leaf
 
 -- A PAGE
-
-module _ (page : Page) (i room : ℕ) (db : List ℕ) where
-  pub lent-open : {o : Open} → openOf page db ≡ shown o → lentOf page i room db ≡ lentIn o i room db
-  unfolding lentOf
-  lent-open e = rw e
-
-  pub lent-unopened : {refusal : Refusal} → openOf page db ≡ refused refusal → lentOf page i room db ≡ refused refusal
-  unfolding lentOf
-  lent-unopened e = rw e
-
-module _ (number i room : ℕ) (db : List ℕ) where
-  pub marked-open : {o : Open} → guarded.openOf number db ≡ shown o → marked.lentOf number i room db ≡ marked.lentIn o i room db
-  unfolding marked.lentOf
-  marked-open e = rw e
-
-  pub marked-unopened : {refusal : Refusal} → guarded.openOf number db ≡ refused refusal → marked.lentOf number i room db ≡ refused refusal
-  unfolding marked.lentOf
-  marked-unopened e = rw e
 
 pub guarded-refuses : GuardedRefuses
 guarded-refuses number i room db s e k = go (openFrom s db) refl
@@ -125,15 +106,6 @@ guarded-refuses number i room db s e k = go (openFrom s db) refl
         let b = marked-open number i room db (leaf-opens ∙ q) in
         let leaf = leaf-opened number db (leaf-opens ∙ q) .1 in
         rw (a, b) (subst (λ (p : Page). Judged p i (lentIn o i room db) (marked.lentIn o i room db)) (open-page page db (file-opened ∙ q)) (every-judged o i room db leaf))
-
-module _ (o : Open) (i room : ℕ) (db : List ℕ) where
-  lent-whole : {l : Located} → locatedIn o i db ≡ shown l → lentIn o i room db ≡ shown (whole l)
-  unfolding lentIn
-  lent-whole e = rw e
-
-  lent-refused : {refusal : Refusal} → locatedIn o i db ≡ refused refusal → spills refusal ≡ false → lentIn o i room db ≡ refused refusal
-  unfolding lentIn
-  lent-refused e t = rw (e, t)
 
 pub as-with-none : AsWithNone
 as-with-none page i room db = go (openOf page db) refl

@@ -15,10 +15,25 @@ use Rattle.row.specs.File.{shownBy}
 use Rattle.row.proofs.Placed.{Placed, placed-in, column-along}
 use Rattle.guarded.specs.Guarded as guarded
 use Rattle.guarded.proofs.Guard.{guarded-in}
 use Rattle.spilled.specs.declared.Source.the-variants.{Database}
-use Rattle.spilled.specs.Lent.{spills, instead}
+use Rattle.spilled.specs.Lent.{spilledIn, spills, instead}
 use Rattle.spilled.specs.Values.{from}
-use Rattle.spilled.specs.Marked.{markedIn, lentIn, lentOf, valueOf}
+use Rattle.marked.specs.Marked.{markedBy, markedIn, lentIn, lentOf, valueOf}
+
+-- in 18's place there is a mark
+pub marked-instead : (o : Open) (i room : ℕ) (db : List ℕ)
+    → lentIn o i room db ≡ instead (λ l. l) (refused (markedBy i (spilledIn o i room db))) (guarded.locatedIn o i db)
+unfolding lentIn markedIn
+marked-instead o i room db = refl
+
+module _ (number i room : ℕ) (db : List ℕ) where
+  pub marked-open : {o : Open} → guarded.openOf number db ≡ shown o → lentOf number i room db ≡ lentIn o i room db
+  unfolding lentOf
+  marked-open e = rw e
+
+  pub marked-unopened : {refusal : Refusal} → guarded.openOf number db ≡ refused refusal → lentOf number i room db ≡ refused refusal
+  unfolding lentOf
+  marked-unopened e = rw e
 
 module _ (i room : ℕ) (db : List ℕ) {l : Located} where
   pub lent-guarded : (o : Open) → lentIn o i room db ≡ shown l → guarded.locatedIn o i db ≡ shown l

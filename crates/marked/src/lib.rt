@@ -1,15 +1,11 @@
 // The guarded reading with a gather buffer lent. A spilled cell that the file reading accepts is refused with its lowest mark
 // of five, so whatever is shown lies in the database.
 ghost use mathlib.Core.Path.{_≡_};
-ghost use Prim.Native.Nat.{_-_};
 ghost use lib.ListN.{length};
 ghost use Rattle.row.specs.Found.{foundBy};
 ghost use Rattle.chain.specs.Gathered.{gatheredIn, bufferBy};
-ghost use Rattle.spilled.specs.Marked.{orSpilled, markedIn, lentIn, bufferIn, lentOf, bufferOf, valueOf};
-ghost use Rattle.spilled.specs.Steps.{markOver};
-use crate::LentAnswer;
-use crate::Source;
-use crate::ValueAnswer;
+ghost use Rattle.marked.specs.Marked.{orSpilled, markedIn, lentIn, bufferIn, lentOf, bufferOf, valueOf};
+ghost use Rattle.marked.specs.Steps.{markOver};
 use answers::Fault;
 use answers::Mark;
 use answers::Refusal;
@@ -19,6 +15,9 @@ use page::OpenAnswer;
 use reading::Reading;
 use row::FoundAnswer;
 use row::FoundCell;
+use spilled::LentAnswer;
+use spilled::Source;
+use spilled::ValueAnswer;
 use varint::Number;
 
 // The lowest mark of a spilled cell whose payload is `payload`.
@@ -30,7 +29,7 @@ fn mark_of(payload: &[u8], found: FoundCell) -> Mark
     let size: Number = numbers.size;
     let key: Number = numbers.key;
     let header: Number = cell.header;
-    let len = header_bytes(cell.values, header.length);
+    let len = parts::less(cell.values as u64, header.length as u64) as usize;
     let types = parts::part(payload, header.length, len);
     let lowest = marks::mark_of(
         types,
@@ -45,19 +44,12 @@ fn mark_of(payload: &[u8], found: FoundCell) -> Mark
     }
 }
 
-// How many bytes of types stand before the values.
-fn header_bytes(values: usize, own: usize) -> usize
-    ensures { λ r. ⌜ r ≡ values - own ⌝ }
-{
-    if values < own { 0 } else { values - own }
-}
-
 // Why a spilled cell is refused: as the file reading refuses it, or with its mark.
 fn marked_in(db: &[u8], opened: Open, i: usize, buffer: &mut [u8]) -> Refusal
     ensures { λ r. ⌜ (r ≡ markedIn opened i (length (now (buffer .entry))) (now (db .entry)))
         × (now (buffer .exit) ≡ bufferBy (gatheredIn opened i (length (now (buffer .entry))) (now (db .entry))) (now (buffer .entry))) ⌝ }
 {
-    let answer = crate::spilled_in(db, opened, i, buffer);
+    let answer = spilled::spilled_in(db, opened, i, buffer);
     match answer {
         LentAnswer::Refused(refusal) => refusal,
         LentAnswer::Shown { found, source: _ } => {
@@ -82,7 +74,7 @@ pub fn found_in(db: &[u8], opened: Open, i: usize, buffer: &mut [u8]) -> FoundAn
     match answer {
         FoundAnswer::Shown(_) => answer,
         FoundAnswer::Refused(refusal) => {
-            if crate::spills_by(refusal) {
+            if spilled::spills_by(refusal) {
                 return FoundAnswer::Refused(marked_in(db, opened, i, buffer));
             }
             answer
@@ -108,7 +100,7 @@ pub fn value(db: &[u8], number: u32, i: usize, k: usize, buffer: &mut [u8]) -> V
         × (now (buffer .exit) ≡ bufferOf number i (now (db .entry)) (now (buffer .entry))) ⌝ }
 {
     let answer = found(db, number, i, buffer);
-    crate::shown_from(
+    spilled::shown_from(
         row::file::shown(db, row::column_of(db, answer, k)),
         Source::Database,
     )

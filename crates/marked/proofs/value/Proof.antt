@@ -3,13 +3,13 @@ use mathlib.Core.Path.{ap, _∙_}
 use denote.Ref.{now}
 use lib.ListN.{length}
 use Rattle.row.specs.File.{shownBy}
 use Rattle.spilled.specs.declared.Source.the-variants.{Database}
 use Rattle.spilled.specs.Values.{from}
-use Rattle.spilled.specs.Marked.{valueOf}
-use Rattle.spilled.proofs.Guarded.{lent-column}
+use Rattle.marked.specs.Marked.{valueOf}
+use Rattle.marked.proofs.Guarded.{lent-column}
 use borrow.Author.Needs.{needs}
-use Rattle.spilled.proofs.marked.value.Statement.{statement}
-use Rattle.spilled.proofs.marked.value.Tie as tie
+use Rattle.marked.proofs.value.Statement.{statement}
+use Rattle.marked.proofs.value.Tie as tie
 
 found-requires : tie.Need-found-requires
 found-requires c κs = search needs
