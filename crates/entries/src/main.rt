@@ -28,7 +28,7 @@ fn show_page(db: &[u8], asked: Page) {
 }
 
 fn show_answer(db: &[u8], asked: Page) {
-    let probed = lent::probe(db, asked, 0);
+    let probed = probe::probe(db, asked, 0);
     let answer = probed.answer;
     match answer {
         PageAnswer::Shown(head) => {
@@ -51,7 +51,7 @@ fn show_answer(db: &[u8], asked: Page) {
 
 // Place `i`: kind, pointer, child, payload size, row number, header size, columns.
 fn show_place(db: &[u8], asked: Page, i: usize) {
-    let probed = lent::probe(db, asked, i);
+    let probed = probe::probe(db, asked, i);
     let entry = probed.entry;
     print::text(b"  ");
     print::number(entry.kind as u64);

@@ -2,7 +2,6 @@
 use Prim.Native.Nat.{ℕ}
 use mathlib.Core.List.{List}
 use lib.Dec.{eqb}
-use lib.IntN.{ℤ}
 use Rattle.laws.specs.Pick.{pick}
 use Rattle.reading.specs.declared.Reading.the-variants.{Old, File}
 use Rattle.answers.specs.declared.Refusal.{Refusal}
@@ -25,7 +24,6 @@ use Rattle.spilled.specs.Lent.{Lent}
 use Rattle.spilled.specs.Values as spilled
 use Rattle.marked.specs.Marked as marked
 use Rattle.usual.specs.declared.RowAnswer.{RowAnswer}
-use Rattle.usual.specs.declared.RowAnswer.the-variants as ra
 use Rattle.usual.specs.Usual as usual
 use Rattle.turns.specs.declared.types.Header.{Header}
 use Rattle.turns.specs.declared.types.Pages.{Pages}
@@ -35,13 +33,12 @@ use Rattle.turns.specs.declared.types.Opening.{Opening}
 use Rattle.turns.specs.declared.types.Along.{Along}
 use Rattle.turns.specs.declared.types.Cell.{Cell}
 use Rattle.turns.specs.declared.types.Shown.{Shown}
-use Rattle.turns.specs.declared.types.Row.{Row}
 use Rattle.turns.specs.declared.types.LentValue.{LentValue}
-use Rattle.turns.specs.Pages.{numberOf, readingOf, pageOf, headerBy, pagesBy, headBy, openingBy, openOf}
-use Rattle.turns.specs.Rows.{cursorOf, cellBy, noRow, rowOf}
+use Rattle.pages.specs.Pages.{numberOf, readingOf, pageOf, headerBy, pagesBy, headBy, openingBy, openOf}
+use Rattle.turns.specs.Rows.{cursorOf, cellBy}
 use Rattle.turns.specs.Shown.{oldShown, fileShown}
-use Rattle.turns.specs.Lent.{lentShown}
-use Rattle.filled.specs.Run.{Run, runFrom, filledBy, over}
+use Rattle.sources.specs.Lent.{lentShown}
+use Rattle.filled.specs.Run.{Run, runFrom}
 use Rattle.gathered.specs.Rows.{lentIn}
 
 -- THE DATABASE AND ITS PAGES
@@ -77,16 +74,6 @@ openingOf reading number db =
 -- cell i of it
 abbrev pub rowIn : Opened → ℕ → List ℕ → RowAnswer
 rowIn opened i db = usual.rowIn (eqb (opened .reading) 2) (openOf opened) i db
-
--- what is answered where a table of so many places is lent
-abbrev pub rowBy : ℕ → List ℕ → RowAnswer → Row
-rowBy places db (ra.Refused refusal) = noRow refusal
-rowBy places db (ra.Shown number columns c) = rowOf number columns (filledBy (runFrom places c db))
-
--- and what the table then holds
-abbrev pub rowOver : ℕ → List ℕ → RowAnswer → List ℤ → List ℤ
-rowOver places db (ra.Refused refusal) table = table
-rowOver places db (ra.Shown number columns c) table = over (runFrom places c db) table
 
 -- ONE CELL
 

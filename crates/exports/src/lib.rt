@@ -10,15 +10,14 @@ ghost use lib.Dec.{eqb};
 ghost use Rattle.place.specs.Place.{filePage};
 ghost use Rattle.spilled.specs.Lent as lent;
 ghost use Rattle.marked.specs.Marked as marked;
-ghost use Rattle.turns.specs.Pages.{openOf};
+ghost use Rattle.pages.specs.Pages.{openOf};
 ghost use Rattle.filled.specs.Run.{filledBy, over};
+ghost use Rattle.filled.specs.Row.{rowBy, rowOver};
 ghost use Rattle.gathered.specs.Rows.{rowLent, tableLent, bufferLent};
-ghost use Rattle.exports.specs.Calls.{headerOf, pagesOf, headOf, entryOf, entriesOver, openingOf, rowIn, rowBy, rowOver, oldCell, fileCell, guardedCell, oldRun, fileRun, oldShownOf, fileShownOf, guardedShownOf, fileLentOf, guardedLentOf, cellLent};
+ghost use Rattle.exports.specs.Calls.{headerOf, pagesOf, headOf, entryOf, entriesOver, openingOf, rowIn, oldCell, fileCell, guardedCell, oldRun, fileRun, oldShownOf, fileShownOf, guardedShownOf, fileLentOf, guardedLentOf, cellLent};
 use filled::run;
-use filled::whole;
 use reading::Reading;
 use table::Entry;
-use turns::pages;
 use turns::rows;
 use turns::shown;
 use turns::types::Along;
@@ -33,7 +32,6 @@ use turns::types::PageHead;
 use turns::types::Pages;
 use turns::types::Row;
 use turns::types::Shown;
-use usual::RowAnswer;
 
 // THE DATABASE AND ITS PAGES, by the number of the reading: 0 is old, any other number file
 
@@ -106,18 +104,7 @@ pub extern "C" fn shorgavel_row_in(db: &[u8], opened: Opened, i: usize, table: &
         × (now (table .exit) ≡ rowOver (length (now (table .entry)) / 5) (now (db .entry)) (rowIn opened i (now (db .entry))) (now (table .entry))) ⌝ }
 {
     let guarded = pages::is_guarded(opened.reading);
-    let answer = usual::row_in(db, pages::open_of(opened), guarded, i);
-    match answer {
-        RowAnswer::Refused(refusal) => rows::no_row(refusal),
-        RowAnswer::Shown {
-            number,
-            columns,
-            cursor,
-        } => {
-            let filled = whole::fill(db, cursor, columns, table);
-            rows::row_of(number, columns, filled)
-        }
-    }
+    filled::row_in(db, pages::open_of(opened), guarded, i, table)
 }
 
 // ONE CELL
@@ -201,7 +188,7 @@ pub extern "C" fn shorgavel_file_value_lent(
     ensures { λ r. ⌜ (r ≡ fileLentOf number i k (length (now (buffer .entry))) (now (db .entry)))
         × (now (buffer .exit) ≡ lent.bufferOf (filePage number) i (now (db .entry)) (now (buffer .entry))) ⌝ }
 {
-    turns::lent::lent_shown(spilled::value(db, number, i, k, buffer))
+    sources::lent_shown(spilled::value(db, number, i, k, buffer))
 }
 
 #[no_mangle]
@@ -215,7 +202,7 @@ pub extern "C" fn shorgavel_guarded_value_lent(
     ensures { λ r. ⌜ (r ≡ guardedLentOf number i k (length (now (buffer .entry))) (now (db .entry)))
         × (now (buffer .exit) ≡ marked.bufferOf number i (now (db .entry)) (now (buffer .entry))) ⌝ }
 {
-    turns::lent::lent_shown(marked::value(db, number, i, k, buffer))
+    sources::lent_shown(marked::value(db, number, i, k, buffer))
 }
 
 // A row with its values, as `shorgavel_row_in` answers it where its payload is whole.

@@ -2,3 +2,4 @@ pub mod Filling
 pub mod Manners
 pub mod Checked
 pub mod Places
+pub mod Found

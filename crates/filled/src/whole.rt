@@ -165,8 +165,8 @@ fn moved(cursor: Cursor, length: usize, value: usize) -> Cursor
     }
 }
 
-// As many values as the table has places, of a row of so many columns. That they are all there is asked of the one caller, whose
-// row was checked when it was found.
+// As many values as the table has places, of a row of so many columns. That they are all there is asked of the one caller,
+// `row_in`, whose row was checked when it was found.
 pub fn fill(db: &[u8], first: Cursor, columns: usize, table: &mut [i64]) -> Filled
     requires { ⌜ Whole first columns (now db) ⌝ }
     ensures { λ r. ⌜ (r ≡ filledBy (runFrom (length (now (table .entry)) / 5) first (now (db .entry))))

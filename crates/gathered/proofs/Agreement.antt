@@ -32,13 +32,14 @@ use Rattle.spilled.proofs.Got.{lent-located, lent-got, lent-open}
 use Rattle.spilled.proofs.Values.{column-gathered, value-found}
 use Rattle.marked.proofs.Guarded.{lent-guarded, marked-open, marked-value}
 use Rattle.turns.specs.Refusals.{accepted}
-use Rattle.turns.specs.Lent.{lentShown}
+use Rattle.sources.specs.Lent.{lentShown}
 use Rattle.filled.specs.Run.{wordsOf, valueAt, runFrom}
 use Rattle.filled.proofs.Checked.{whole-found}
 use Rattle.filled.proofs.Places.{fiveAt, wordsIn, place-holds, over-run}
 use Rattle.gathered.specs.Rows.{lentIn, rowLent, tableLent}
 use Rattle.gathered.specs.Agreement.{columnsOf, RowShows}
-use Rattle.gathered.proofs.Found.{in-place, spilled-whole}
+use Rattle.filled.proofs.Found.{in-place}
+use Rattle.gathered.proofs.Found.{spilled-whole}
 
 -- what is said of a place
 abbrev Shows : ℕ → ℕ → List ℕ → List ℤ → Lent → ValueAnswer → Type 0

@@ -19,7 +19,7 @@ use Rattle.spilled.specs.Lent.{Lent, whole, gathered, foundOver, foundOn, lentB
 use Rattle.spilled.proofs.Got.{lent-got}
 use Rattle.spilled.proofs.Values.{got-part}
 use Rattle.turns.specs.Rows.{noRow}
-use Rattle.turns.specs.Lent.{lentRow}
+use Rattle.sources.specs.Lent.{lentRow}
 use Rattle.gathered.specs.Rows.{rowFrom, tableFrom, rowLent, tableLent}
 
 module _ (places : ℕ) (db : List ℕ) (table : List ℤ) where

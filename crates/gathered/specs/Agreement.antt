@@ -18,7 +18,7 @@ use Rattle.spilled.specs.Lent.{Lent, whole, gathered}
 use Rattle.spilled.specs.Values as file
 use Rattle.marked.specs.Marked as marked
 use Rattle.turns.specs.Refusals.{accepted}
-use Rattle.turns.specs.Lent.{lentShown}
+use Rattle.sources.specs.Lent.{lentShown}
 use Rattle.filled.specs.Run.{wordsOf}
 use Rattle.gathered.specs.Rows.{lentIn, rowLent, tableLent}
 

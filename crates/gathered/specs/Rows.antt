@@ -16,7 +16,7 @@ use Rattle.marked.specs.Marked as marked
 use Rattle.turns.specs.declared.types.Row.{Row}
 use Rattle.turns.specs.declared.types.LentRow.{LentRow}
 use Rattle.turns.specs.Rows.{noRow, rowOf}
-use Rattle.turns.specs.Lent.{lentRow}
+use Rattle.sources.specs.Lent.{lentRow}
 use Rattle.spilled.specs.declared.Source.{Source}
 use Rattle.spilled.specs.declared.Source.the-variants.{Database, Buffer}
 use Rattle.filled.specs.Run.{Run, runFrom, filledBy, over}

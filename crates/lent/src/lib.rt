@@ -8,7 +8,6 @@ ghost use lib.ListN.{length};
 ghost use Rattle.page.specs.Open.{openOf, openAnswer};
 ghost use Rattle.table.specs.Entry.{filled};
 ghost use Rattle.table.specs.Page.{pageOf, written};
-ghost use Rattle.lent.specs.Probe.{returnedOf, probeOf};
 use page::OpenAnswer;
 use place::Page;
 use table::Entry;
@@ -36,54 +35,4 @@ fn fill(db: &[u8], opening: OpenAnswer, n: usize, table: &mut [Entry])
         table[i] = table::entry_by(db, opening, i);
         i = i + 1;
     }
-}
-
-// What `probe` answers: a page call's own answer, and one place of the table that was lent.
-pub struct Probed {
-    pub answer: PageAnswer,
-    pub entry: Entry,
-}
-
-// A page call's answer, with the table that was lent to it.
-struct Returned {
-    answer: PageAnswer,
-    table: [Entry; 8],
-}
-
-// What a place of `probe`'s table holds before the call: no page has a kind of 255.
-const BLANK: Entry = Entry {
-    kind: 255,
-    pointer: 7,
-    child: 7,
-    payload_size: 7,
-    row: 7,
-    header_size: 7,
-    columns: 7,
-};
-
-// The page call for a caller that has no table to lend: one of eight blanks is lent, and its place i is shown, blank where
-// there is no such place. With plain parameters, so that tests of the page call can be covered.
-pub fn probe(db: &[u8], asked: Page, i: usize) -> Probed
-    ensures { λ r. ⌜ r ≡ probeOf i asked (now (db .entry)) ⌝ }
-{
-    let returned = lend(db, asked, [BLANK; 8]);
-    if i < 8 {
-        Probed {
-            answer: returned.answer,
-            entry: returned.table[i],
-        }
-    } else {
-        Probed {
-            answer: returned.answer,
-            entry: BLANK,
-        }
-    }
-}
-
-// Lends the table to the page call, and hands it back.
-fn lend(db: &[u8], asked: Page, mut table: [Entry; 8]) -> Returned
-    ensures { λ r. ⌜ r ≡ returnedOf asked (now (db .entry)) table ⌝ }
-{
-    let answer = page(db, asked, &mut table);
-    Returned { answer, table }
 }

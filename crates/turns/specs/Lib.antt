@@ -1,5 +1,3 @@
 pub mod Refusals
-pub mod Pages
 pub mod Rows
 pub mod Shown
-pub mod Lent

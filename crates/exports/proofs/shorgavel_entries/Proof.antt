@@ -49,7 +49,7 @@ use Rattle.table.specs.Page.{written}
 use Rattle.table.proofs.Laws.{cells-within}
 use Rattle.lent.proofs.Filled.{filled-length}
 use Rattle.turns.specs.declared.types.PageHead.{PageHead}
-use Rattle.turns.specs.Pages.{pageOf, headBy}
+use Rattle.pages.specs.Pages.{pageOf, headBy}
 use Rattle.exports.specs.Calls.{pageOpened}
 use Rattle.table.proofs.Entry as T
 use Rattle.place.proofs.Page as P
@@ -58,18 +58,18 @@ use Rattle.table.proofs.PageAnswer as B
 use Rattle.table.proofs.PageAnswer.Laws as B′
 use Rattle.turns.proofs.types.PageHead as D
 use Rattle.turns.proofs.types.PageHead.Laws as D′
-use Rattle.turns.proofs.pages.page_of as page-of
-use Rattle.turns.proofs.pages.page_of.Symbol as page-of-def
-use Rattle.turns.proofs.pages.page_of.Symbol.{name as #page-of}
-use Rattle.turns.proofs.pages.page_of.Met as page-of-thm
+use Rattle.pages.proofs.page_of as page-of
+use Rattle.pages.proofs.page_of.Symbol as page-of-def
+use Rattle.pages.proofs.page_of.Symbol.{name as #page-of}
+use Rattle.pages.proofs.page_of.Met as page-of-thm
 use Rattle.lent.proofs.page as page
 use Rattle.lent.proofs.page.Symbol as page-def
 use Rattle.lent.proofs.page.Symbol.{name as #lent·page}
 use Rattle.lent.proofs.page.Met as page-thm
-use Rattle.turns.proofs.pages.head_by as head-by
-use Rattle.turns.proofs.pages.head_by.Symbol as head-by-def
-use Rattle.turns.proofs.pages.head_by.Symbol.{name as #head-by}
-use Rattle.turns.proofs.pages.head_by.Met as head-by-thm
+use Rattle.pages.proofs.head_by as head-by
+use Rattle.pages.proofs.head_by.Symbol as head-by-def
+use Rattle.pages.proofs.head_by.Symbol.{name as #head-by}
+use Rattle.pages.proofs.head_by.Met as head-by-thm
 use Rattle.exports.proofs.shorgavel_entries.Key.{name as #entries}
 use Rattle.exports.proofs.shorgavel_entries as f
 use Rattle.exports.proofs.shorgavel_entries.Statement as stated
@@ -254,6 +254,6 @@ shorgavel-entries-spec 𝓤 H 𝓜 𝓖 𝓡 =
     entered 𝓤 H (tripleOf 𝓤 H (𝓖 .A) f.signature (f.spec 𝓤 H (𝓖 .A) (𝓜 .mem) (𝓡 .run)))
     (tables 𝓤 H 𝓜 𝓡 code.env .C) (tables 𝓤 H 𝓜 𝓡 code.env .Λ) #entries code.function (code.unfolded 𝓤 H 𝓜 𝓡)
     (entries-meets 𝓤 H (𝓖 .A) (givenOf 𝓤 H 𝓜 𝓖) (𝓜 .mem) (𝓡 .run) (tablesOf 𝓤 H 𝓜 (tables 𝓤 H 𝓜 𝓡 code.env))
-    (cited 𝓤 H (PageOf 𝓤 H (𝓖 .A) (𝓜 .mem) (𝓡 .run)) 𝓜 𝓡 code.env #page-of page-of-def.routine code.calls-turns·pages·page-of (page-of-thm.met 𝓤 H 𝓜 𝓖 𝓡))
+    (cited 𝓤 H (PageOf 𝓤 H (𝓖 .A) (𝓜 .mem) (𝓡 .run)) 𝓜 𝓡 code.env #page-of page-of-def.routine code.calls-pages·page-of (page-of-thm.met 𝓤 H 𝓜 𝓖 𝓡))
     (cited 𝓤 H (PageCall 𝓤 H (𝓖 .A) (𝓜 .mem) (𝓡 .run)) 𝓜 𝓡 code.env #lent·page page-def.routine code.calls-lent·page (page-thm.met 𝓤 H 𝓜 𝓖 𝓡))
-    (cited 𝓤 H (HeadBy 𝓤 H (𝓖 .A) (𝓜 .mem) (𝓡 .run)) 𝓜 𝓡 code.env #head-by head-by-def.routine code.calls-turns·pages·head-by (head-by-thm.met 𝓤 H 𝓜 𝓖 𝓡)))
+    (cited 𝓤 H (HeadBy 𝓤 H (𝓖 .A) (𝓜 .mem) (𝓡 .run)) 𝓜 𝓡 code.env #head-by head-by-def.routine code.calls-pages·head-by (head-by-thm.met 𝓤 H 𝓜 𝓖 𝓡)))

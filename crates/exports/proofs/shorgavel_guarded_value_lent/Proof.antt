@@ -1,6 +1,6 @@
 -- The reader's answer, turned.
 use mathlib.Core.Path.{ap, _∙_}
-use Rattle.turns.specs.Lent.{lentShown}
+use Rattle.sources.specs.Lent.{lentShown}
 use borrow.Author.Needs.{needs}
 use Rattle.exports.proofs.shorgavel_guarded_value_lent.Statement.{statement}
 use Rattle.exports.proofs.shorgavel_guarded_value_lent.Tie as tie

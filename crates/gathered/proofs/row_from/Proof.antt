@@ -2,7 +2,7 @@
 use mathlib.Core.Path.{ap, _∙_}
 use Rattle.turns.specs.declared.types.Row.{Row}
 use Rattle.turns.specs.Rows.{rowOf}
-use Rattle.turns.specs.Lent.{lentRow}
+use Rattle.sources.specs.Lent.{lentRow}
 use borrow.Author.Needs.{needs}
 use Rattle.gathered.proofs.row_from.Statement.{statement}
 use Rattle.gathered.proofs.row_from.Tie as tie

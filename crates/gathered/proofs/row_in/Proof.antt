@@ -8,7 +8,7 @@ use Rattle.spilled.specs.declared.Source.the-variants.{Database, Buffer}
 use Rattle.spilled.specs.Lent as file
 use Rattle.marked.specs.Marked as marked
 use Rattle.turns.specs.declared.types.Row.{Row}
-use Rattle.turns.specs.Lent.{lentRow}
+use Rattle.sources.specs.Lent.{lentRow}
 use Rattle.gathered.specs.Rows.{rowFrom, tableFrom}
 use Rattle.gathered.proofs.Rows.{marked-refused, marked-shown, lent-refused, lent-whole, lent-gathered}
 use borrow.Author.Needs.{needs}

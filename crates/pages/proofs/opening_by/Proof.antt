@@ -1,0 +1,41 @@
+-- The page as it is, or the refusal by its numbers.
+use borrow.Author.Needs.{needs}
+use Rattle.pages.proofs.opening_by.Statement.{statement}
+use Rattle.pages.proofs.opening_by.Tie as tie
+
+enum-known-answer : tie.Need-enum-known-answer
+enum-known-answer c = search needs
+
+refused-by-requires : tie.Need-refused-by-requires
+refused-by-requires c κs = search needs
+
+no-page-requires : tie.Need-no-page-requires
+no-page-requires c κs = search needs
+
+enum-known-answer-2 : tie.Need-enum-known-answer-2
+enum-known-answer-2 c = search needs
+
+no-refusal-requires : tie.Need-no-refusal-requires
+no-refusal-requires c κs = search needs
+
+opened-of-requires : tie.Need-opened-of-requires
+opened-of-requires c κs = search needs
+
+returns : tie.Need-returns
+returns c = rw (c .before .before .before .answer .given .1, c .before .refused-by .ensures, c .no-page .ensures)
+
+returns-2 : tie.Need-returns-2
+returns-2 c = rw (c .before .before .before .answer2 .given .1, c .before .no-refusal .ensures, c .opened-of .ensures)
+
+pub opening-by-spec : {M : Type 1} → statement M
+opening-by-spec =
+    tie.close
+    (tie.spec
+    enum-known-answer
+    refused-by-requires
+    no-page-requires
+    enum-known-answer-2
+    no-refusal-requires
+    opened-of-requires
+    returns
+    returns-2)
