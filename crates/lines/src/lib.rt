@@ -5,9 +5,7 @@
 // by along its cursor. docs/READINGS.md says how values are written.
 //
 // No contract can say what is read or written, and `run` answers nothing: it is proved safe and ending. What is printed is
-// made by the functions of the readers and of `print`, whose promises say all of it; `file::row`, which others call too,
-// promises the text of a row.
-pub mod file;
+// made by the functions of the readers, of `print` and of `texts`, whose promises say all of it.
 mod old;
 
 use answers::Flaw;
@@ -105,12 +103,12 @@ fn old_line(db: &[u8], out: &mut [u8], at: usize, number: u32, i: usize) -> usiz
 
 fn file_line(db: &[u8], out: &mut [u8], at: usize, number: u32, i: usize) -> usize {
     let n = start(out, at, number, i, b" file");
-    file::row(db, out, n, row::found(db, place::file(number), i))
+    texts::row(db, out, n, row::found(db, place::file(number), i))
 }
 
 fn guarded_line(db: &[u8], out: &mut [u8], at: usize, number: u32, i: usize) -> usize {
     let n = start(out, at, number, i, b" guarded");
-    file::row(db, out, n, guarded::found(db, number, i))
+    texts::row(db, out, n, guarded::found(db, number, i))
 }
 
 fn before(number: u32) -> u32 {

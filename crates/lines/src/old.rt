@@ -1,18 +1,15 @@
 // What the old reading shows of a cell: its integers have the Rust's widths, which are not printed.
 use columns::Cursor;
 use print::out::field_i64;
-use print::out::integer;
-use print::out::long;
-use print::out::real;
 use print::out::refused;
 use print::out::text;
 use row::FoundAnswer;
 use row::old::NextAnswer;
+use values::file;
 use values::narrow::from_i8;
 use values::narrow::from_i16;
 use values::narrow::from_i32;
 use values::old::Value;
-use values::part::part;
 use varint::Number;
 
 // The rest of a cell's line: the row number and the values, or the refusal.
@@ -47,15 +44,20 @@ fn values(db: &[u8], out: &mut [u8], at: usize, first: Cursor, count: usize) -> 
     n
 }
 
+// A value is written as one of the file reading, whatever width its type has.
 fn value(db: &[u8], out: &mut [u8], at: usize, v: Value) -> usize {
+    texts::value(db, out, at, widened(v))
+}
+
+fn widened(v: Value) -> file::Value {
     match v {
-        Value::Null => text(out, at, b" null"),
-        Value::I8(z) => integer(out, at, b" i:", from_i8(z)),
-        Value::I16(z) => integer(out, at, b" i:", from_i16(z)),
-        Value::I32(z) => integer(out, at, b" i:", from_i32(z)),
-        Value::I64(z) => integer(out, at, b" i:", z),
-        Value::F64 { number: _, bits } => real(out, at, b" r:", bits),
-        Value::Blob { at: from, len } => long(out, at, b" b:", part(db, from, len)),
-        Value::Text { at: from, len } => long(out, at, b" t:", part(db, from, len)),
+        Value::Null => file::Value::Null,
+        Value::I8(z) => file::Value::Integer(from_i8(z)),
+        Value::I16(z) => file::Value::Integer(from_i16(z)),
+        Value::I32(z) => file::Value::Integer(from_i32(z)),
+        Value::I64(z) => file::Value::Integer(z),
+        Value::F64 { number, bits } => file::Value::Real { number, bits },
+        Value::Blob { at, len } => file::Value::Blob { at, len },
+        Value::Text { at, len } => file::Value::Text { at, len },
     }
 }

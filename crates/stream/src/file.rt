@@ -69,5 +69,5 @@ fn cell(db: &[u8], out: &mut [u8], at: usize, number: u32, i: usize) -> usize {
     let n = text(out, at, b"row");
     let n = field_u32(out, n, number);
     let n = field(out, n, i as u64);
-    lines::file::row(db, out, n, row::found(db, place::file(number), i))
+    texts::row(db, out, n, row::found(db, place::file(number), i))
 }

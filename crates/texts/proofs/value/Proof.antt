@@ -2,8 +2,8 @@
 use mir.Syntax.{w64}
 use mir.Facts.{toZ-ofZ}
 use borrow.Author.Needs.{needs}
-use Rattle.lines.proofs.file.value.Statement.{statement}
-use Rattle.lines.proofs.file.value.Tie as tie
+use Rattle.texts.proofs.value.Statement.{statement}
+use Rattle.texts.proofs.value.Tie as tie
 
 enum-told : tie.Need-enum-told
 enum-told c = search needs

@@ -4,10 +4,10 @@ use lib.ListN.{length}
 use borrow.Author.Needs.{needs}
 use Rattle.print.specs.Gathered.{gathered, puts}
 use Rattle.print.proofs.Gathering.{turn, done}
-use Rattle.lines.specs.Row.{valuesText}
-use Rattle.lines.proofs.Along.{values-next, values-end, values-none}
-use Rattle.lines.proofs.file.values.Statement.{statement}
-use Rattle.lines.proofs.file.values.Tie as tie
+use Rattle.texts.specs.Row.{valuesText}
+use Rattle.texts.proofs.Along.{values-next, values-end, values-none}
+use Rattle.texts.proofs.values.Statement.{statement}
+use Rattle.texts.proofs.values.Tie as tie
 
 abbrev Inv-loop : tie.InvT-loop
 Inv-loop db out₀ at count n₀ here₀ left₀ out n here left =

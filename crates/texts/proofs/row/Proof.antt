@@ -4,8 +4,8 @@ use mir.Syntax.{w64}
 use mir.Facts.{toZ-ofZ}
 use borrow.Author.Needs.{needs}
 use Rattle.print.proofs.Gathering.{on}
-use Rattle.lines.proofs.file.row.Statement.{statement}
-use Rattle.lines.proofs.file.row.Tie as tie
+use Rattle.texts.proofs.row.Statement.{statement}
+use Rattle.texts.proofs.row.Tie as tie
 
 enum-known-answer : tie.Need-enum-known-answer
 enum-known-answer c = search needs

@@ -1,7 +1,8 @@
-// What the file reading shows of a cell; the guarded one shows it in the same words.
+// A row in words, as the file reading shows it: its row number and its values, or the refusal. The guarded reading shows it in
+// the same words, and the old one its values.
 ghost use mathlib.Core.Path.{_≡_};
 ghost use Rattle.print.specs.Gathered.{gathered, puts};
-ghost use Rattle.lines.specs.Row.{valueText, valuesText, rowText};
+ghost use Rattle.texts.specs.Row.{valueText, valuesText, rowText};
 use columns::Cursor;
 use print::out::field_i64;
 use print::out::integer;
@@ -51,7 +52,8 @@ fn values(db: &[u8], out: &mut [u8], at: usize, first: Cursor, count: usize) -> 
     n
 }
 
-fn value(db: &[u8], out: &mut [u8], at: usize, v: Value) -> usize
+// One value, behind a space.
+pub fn value(db: &[u8], out: &mut [u8], at: usize, v: Value) -> usize
     ensures { λ r. ⌜ gathered (now (out .exit)) r ≡ puts (valueText (now (db .entry)) v) (gathered (now (out .entry)) at) ⌝ }
 {
     match v {

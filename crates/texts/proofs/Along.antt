@@ -7,7 +7,7 @@ use Rattle.columns.specs.declared.Cursor.{Cursor}
 use Rattle.values.specs.declared.file.Value.{Value}
 use Rattle.row.specs.declared.file.NextAnswer.the-variants.{Column, Done}
 use Rattle.row.specs.File.{nextOf}
-use Rattle.lines.specs.Row.{valueText, valuesText}
+use Rattle.texts.specs.Row.{valueText, valuesText}
 
 module _ (c : Cursor) (db : List ℕ) where
   pub values-next : (count : ℕ) (v : Value) (next : Cursor) → 0 < count → nextOf c db ≡ Column v next
