@@ -15,6 +15,7 @@ ghost use Rattle.filled.specs.Run.{filledBy, over};
 ghost use Rattle.filled.specs.Row.{rowBy, rowOver};
 ghost use Rattle.gathered.specs.Rows.{rowLent, tableLent, bufferLent};
 ghost use Rattle.exports.specs.Calls.{headerOf, pagesOf, headOf, entryOf, entriesOver, openingOf, rowIn, oldCell, fileCell, guardedCell, oldRun, fileRun, oldShownOf, fileShownOf, guardedShownOf, fileLentOf, guardedLentOf, cellLent};
+use columns::Cursor;
 use filled::run;
 use reading::Reading;
 use table::Entry;
@@ -139,7 +140,8 @@ pub extern "C" fn shorgavel_old_values(db: &[u8], along: Along, table: &mut [i64
     ensures { λ r. ⌜ (r ≡ filledBy (oldRun along (length (now (table .entry)) / 5) (now (db .entry))))
         × (now (table .exit) ≡ over (oldRun along (length (now (table .entry)) / 5) (now (db .entry))) (now (table .entry))) ⌝ }
 {
-    run::fill(db, rows::cursor_of(Reading::Old, along), table)
+    let cursor: Cursor = rows::cursor_of(Reading::Old, along);
+    run::fill(db, cursor, table)
 }
 
 // A guarded row goes on with it too.
@@ -148,7 +150,8 @@ pub extern "C" fn shorgavel_file_values(db: &[u8], along: Along, table: &mut [i6
     ensures { λ r. ⌜ (r ≡ filledBy (fileRun along (length (now (table .entry)) / 5) (now (db .entry))))
         × (now (table .exit) ≡ over (fileRun along (length (now (table .entry)) / 5) (now (db .entry))) (now (table .entry))) ⌝ }
 {
-    run::fill(db, rows::cursor_of(Reading::File, along), table)
+    let cursor: Cursor = rows::cursor_of(Reading::File, along);
+    run::fill(db, cursor, table)
 }
 
 // ONE VALUE: column `k` of cell `i`

@@ -6,6 +6,7 @@ ghost use mathlib.Core.Path.{_≡_};
 ghost use Prim.Native.Nat.{_/_};
 ghost use lib.ListN.{length};
 ghost use Rattle.gathered.specs.Rows.{lentIn, rowFrom, tableFrom, rowLent, tableLent, bufferLent};
+use columns::Cursor;
 use filled::run;
 use page::Open;
 use row::FoundAnswer;
@@ -24,7 +25,7 @@ fn row_from(bytes: &[u8], found: FoundCell, source: Source, table: &mut [i64]) -
 {
     let cell = found.cell;
     let row: Number = cell.row;
-    let cursor = found.cursor;
+    let cursor: Cursor = found.cursor;
     let filled = run::fill(bytes, cursor, table);
     lent_row(rows::row_of(row.value, cell.columns, filled), source)
 }

@@ -9,8 +9,8 @@ use Rattle.marks.specs.declared.Marking.{Marking}
 use Rattle.marks.specs.Marks.{lowest}
 use Rattle.row.specs.declared.FoundCell.{FoundCell}
 
--- the lowest mark of a spilled cell, in its payload
+-- the lowest mark of a spilled cell, of the types in its payload that its cursor stands before
 abbrev pub markOver : FoundCell → List ℕ → Marking
 markOver found payload =
     lowest (found .cell .numbers .size .length) (found .cell .numbers .key .length) (found .cell .header .length)
-    (typesOf (limit file) (take (found .cell .values - found .cell .header .length) (drop (found .cell .header .length) payload)))
+    (typesOf (limit file) (take (found .cursor .stop - found .cursor .at) (drop (found .cursor .at) payload)))

@@ -9,9 +9,12 @@ ghost use Rattle.marked.specs.Steps.{markOver};
 use answers::Fault;
 use answers::Mark;
 use answers::Refusal;
+use cell::Cell;
+use columns::Cursor;
 use marks::Marking;
 use page::Open;
 use page::OpenAnswer;
+use place::Page;
 use reading::Reading;
 use row::FoundAnswer;
 use row::FoundCell;
@@ -24,13 +27,14 @@ use varint::Number;
 fn mark_of(payload: &[u8], found: FoundCell) -> Mark
     ensures { λ r. ⌜ r ≡ orSpilled (markOver found (now (payload .entry))) ⌝ }
 {
-    let cell = found.cell;
+    let cell: Cell = found.cell;
     let numbers = cell.numbers;
     let size: Number = numbers.size;
     let key: Number = numbers.key;
     let header: Number = cell.header;
-    let len = parts::less(cell.values as u64, header.length as u64) as usize;
-    let types = parts::part(payload, header.length, len);
+    let cursor: Cursor = found.cursor;
+    let len = parts::less(cursor.stop as u64, cursor.at as u64) as usize;
+    let types = parts::part(payload, cursor.at, len);
     let lowest = marks::mark_of(
         types,
         reading::limit_of(Reading::File),
@@ -53,7 +57,7 @@ fn marked_in(db: &[u8], opened: Open, i: usize, buffer: &mut [u8]) -> Refusal
     match answer {
         LentAnswer::Refused(refusal) => refusal,
         LentAnswer::Shown { found, source: _ } => {
-            let page = found.page;
+            let page: Page = found.page;
             let cell = found.cell;
             let mark = mark_of(parts::part(buffer, 0, cell.payload), found);
             Refusal::InCell {

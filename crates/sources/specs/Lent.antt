@@ -1,5 +1,7 @@
 -- What calls answer that are lent a gather buffer, as C has it.
 use Prim.Native.Nat.{ℕ}
+use Rattle.answers.specs.declared.Refusal.{Refusal}
+use Rattle.values.specs.declared.file.Value.{Value}
 use Rattle.spilled.specs.declared.Source.{Source}
 use Rattle.spilled.specs.declared.Source.the-variants.{Database, Buffer}
 use Rattle.spilled.specs.declared.ValueAnswer.{ValueAnswer}
@@ -18,6 +20,12 @@ sourceOf Buffer = 1
 abbrev pub lentRow : Row → Source → LentRow
 lentRow row source = record { row = row; source = sourceOf source }
 
+abbrev pub lentNone : Refusal → LentValue
+lentNone refusal = record { refused = refusedBy refusal; value = empty; source = 0 }
+
+abbrev pub lentValue : Value → Source → LentValue
+lentValue value source = record { refused = accepted; value = fileValue value; source = sourceOf source }
+
 abbrev pub lentShown : ValueAnswer → LentValue
-lentShown (an.Refused refusal) = record { refused = refusedBy refusal; value = empty; source = 0 }
-lentShown (an.Shown value source) = record { refused = accepted; value = fileValue value; source = sourceOf source }
+lentShown (an.Refused refusal) = lentNone refusal
+lentShown (an.Shown value source) = lentValue value source

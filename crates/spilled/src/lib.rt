@@ -25,6 +25,7 @@ use record::RecordAnswer;
 use row::FoundAnswer;
 use row::FoundCell;
 use values::file::Value;
+use varint::Number;
 
 // The bytes that a place counts in.
 pub enum Source {
@@ -90,7 +91,7 @@ fn recorded(payload: &[u8], page: Page, i: usize, numbers: Numbers) -> LentAnswe
         RecordAnswer::Whole(record) => {
             let header = record.header;
             let values = record.values;
-            let row = numbers.key;
+            let row: Number = numbers.key;
             let found = FoundCell {
                 page,
                 cell: Cell {

@@ -26,7 +26,7 @@ enum-known-lowest : tie.Need-enum-known-lowest
 enum-known-lowest c = search needs
 
 -- what was looked for, in the types of the payload
-looked : (c : tie.After-mark-of) → let a = c .before .before .before .before .before .before .before .before .before .before .args in c .mark-of .result ≡ markOver (a .found) (now (a .payload))
+looked : (c : tie.After-mark-of) → let a = c .before .before .before .before .before .before .before .before .before .before .before .args in c .mark-of .result ≡ markOver (a .found) (now (a .payload))
 looked c = rw (c .before .before .part .ensures, c .before .before .before .less .ensures, c .before .limit-of .ensures) at (c .mark-of .ensures)
 
 returns : tie.Need-returns
