@@ -17,7 +17,7 @@ pub fn row(db: &[u8], out: &mut [u8], at: usize, answer: FoundAnswer) -> usize {
     match answer {
         FoundAnswer::Refused(refusal) => refused(out, at, answers::numbers_of(refusal)),
         FoundAnswer::Shown(found) => {
-            let cell = found.cell;
+            let cell: cell::Cell = found.cell;
             let cursor = found.cursor;
             let row: Number = cell.row;
             let n = field_i64(out, at, fields::signed_of(row.value));
