@@ -54,7 +54,7 @@ int main(int count, char **words) {
     shorgavel_cell_entry *table = calloc(ROOM, sizeof *table);
     if (!table) fail("there is no memory for the table");
     accepted a = {0, 0};
-    for (int left = atoi(words[3]); left > 0; left--) a = pass(reading, db, length, pages.count, table);
+    for (int left = atoi(words[3]); left > 0; left--) a = pass(reading, db, length, pages.present, table);
     printf("%llu pages, %llu entries\n", (unsigned long long)a.pages, (unsigned long long)a.entries);
     free(table);
     free(db);

@@ -127,7 +127,7 @@ int main(int count, char **words) {
     shorgavel_pages_answer pages = shorgavel_pages(db, length, r == LENT ? SHORGAVEL_FILE : r);
     if (pages.refused.number != 0) fail("the header is refused");
     shown s = {0, 0, 0, 0};
-    for (int left = atoi(words[3]); left > 0; left--) s = pass_of(r, db, length, (uint32_t)pages.count);
+    for (int left = atoi(words[3]); left > 0; left--) s = pass_of(r, db, length, (uint32_t)pages.present);
     print_shown(s);
     free(db);
     return 0;

@@ -98,10 +98,12 @@ typedef struct {
     shorgavel_fields fields;
 } shorgavel_header_answer;
 
-/* How many pages there are: as many as whole pages fit in the bytes. */
+/* How many pages there are: old, as many as whole pages fit in the bytes; file and guarded, as the header states where its size is
+   not 0 and its two counters are equal. Of these the first `present` are wholly in the bytes. */
 typedef struct {
     shorgavel_refused refused;
     size_t count;
+    size_t present;
 } shorgavel_pages_answer;
 
 /* The head of a page. */

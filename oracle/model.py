@@ -73,7 +73,15 @@ def shape(db):
         raise Refused(6)
     if tuple(db[21:24]) != (64, 32, 32):
         raise Refused(7)
-    return Shape(size, size - db[20], len(db) // size)
+    return Shape(size, size - db[20], pages_of(db, len(db) // size))
+
+
+def pages_of(db, whole):
+    """How many pages there are and are wholly in the bytes: the size at 28 counts if the counters at 24 and 92 are equal."""
+    stated = word(db, 28, 4)
+    if stated != 0 and word(db, 24, 4) == word(db, 92, 4):
+        return min(stated, whole)
+    return whole
 
 
 def opened(db, reading, number):

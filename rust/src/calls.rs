@@ -53,11 +53,12 @@ pub struct HeaderAnswer {
     pub fields: Fields,
 }
 
-/// How many pages there are.
+/// How many pages there are, and how many of them are wholly in the bytes.
 #[repr(C)]
 pub struct PagesAnswer {
     pub refused: Refused,
     pub count: usize,
+    pub present: usize,
 }
 
 /// The head of a page.
@@ -350,7 +351,7 @@ mod tests {
         assert_eq!(size_of::<Refused>(), 24);
         assert_eq!(size_of::<Fields>(), 84);
         assert_eq!(size_of::<HeaderAnswer>(), 112);
-        assert_eq!(size_of::<PagesAnswer>(), 32);
+        assert_eq!(size_of::<PagesAnswer>(), 40);
         assert_eq!(size_of::<Head>(), 32);
         assert_eq!(size_of::<PageAnswer>(), 56);
         assert_eq!(size_of::<CellEntry>(), 48);

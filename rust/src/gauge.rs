@@ -3,6 +3,15 @@ use crate::calls;
 use crate::{DbHeader, Leaves, Notes, Page, Reading, Refusal, Rows, Value};
 use std::ops::Range;
 
+/// How many pages a database has.
+#[derive(Clone, Copy, Debug, PartialEq, Eq)]
+pub struct PageCount {
+    /// How many there are.
+    pub count: u32,
+    /// How many of them are wholly in the bytes: less where a file was cut short.
+    pub present: u32,
+}
+
 /// A gauge's database: the bytes of its file, which stay the caller's.
 ///
 /// Nothing is read until it is asked for, and nothing is kept but the reference.
@@ -36,14 +45,19 @@ impl<'a> Gauge<'a> {
         Ok(DbHeader::of(&answer.fields))
     }
 
-    /// The numbers of the pages, as the reading counts: as many as whole pages fit in the bytes.
-    pub fn pages(&self, reading: Reading) -> Result<Range<u32>, Refusal> {
+    /// How many pages there are, and how many of them are wholly in the bytes. The old reading counts whole pages; the other two
+    /// take the size that the header states, where it was written with the last change.
+    pub fn page_count(&self, reading: Reading) -> Result<PageCount, Refusal> {
         let answer = calls::pages(self.bytes.0, reading.number());
         Refusal::check(&answer.refused)?;
-        // A gigabyte has no more pages than a u32 counts.
-        let count = answer.count as u32;
+        // A header's field has 32 bits, and a gigabyte has no more pages.
+        Ok(PageCount { count: answer.count as u32, present: answer.present as u32 })
+    }
+
+    /// The numbers of the pages that are wholly in the bytes, as the reading counts.
+    pub fn pages(&self, reading: Reading) -> Result<Range<u32>, Refusal> {
         let first = reading.first_page();
-        Ok(first..first + count)
+        Ok(first..first + self.page_count(reading)?.present)
     }
 
     /// Opens a page by its number, as the reading counts. The guarded reading opens table leaves only.

@@ -59,7 +59,7 @@ mod values;
 pub use cell::{Cell, Cells};
 pub use encoding::TextEncoding;
 pub use entry::{Entry, Head};
-pub use gauge::Gauge;
+pub use gauge::{Gauge, PageCount};
 pub use header::DbHeader;
 pub use kind::Kind;
 pub use mark::Mark;

@@ -4,7 +4,7 @@ mod common;
 
 use common::{every_kind, long_notes, note, pages, put, spill, two_rows};
 use shorgavel::Reading::{File, Guarded, Old};
-use shorgavel::{Cell, Entry, Gauge, Head, Kind, Mark, Notes, Reading, Refusal, Row, TextEncoding, Value, Width};
+use shorgavel::{Cell, Entry, Gauge, Head, Kind, Mark, Notes, PageCount, Reading, Refusal, Row, TextEncoding, Value, Width};
 use std::cell::RefCell;
 
 fn cell(bytes: &[u8], reading: Reading, number: usize) -> Result<Cell<'_>, Refusal> {
@@ -66,6 +66,26 @@ fn pages_count_as_the_reading_counts() {
     put(&mut bytes, 16, &[0, 0]);
     assert_eq!(Gauge::new(&bytes).pages(Old), Ok(0..0));
     assert_eq!(Gauge::new(&bytes).pages(File).unwrap_err().name(), "PageSizeUnfit");
+}
+
+#[test]
+fn pages_behind_the_stated_size_are_old_alone() {
+    let mut bytes = two_rows();
+    bytes.extend([0; 1024]);
+    put(&mut bytes, 1024, &[13, 0, 0, 0, 0, 0, 0, 0]);
+    for (stated, count, present) in [(0, 3, 3), (2, 2, 2), (3, 3, 3), (7, 7, 3), (u32::MAX, u32::MAX, 3)] {
+        put(&mut bytes, 28, &stated.to_be_bytes());
+        let gauge = Gauge::new(&bytes);
+        assert_eq!(gauge.page_count(Old), Ok(PageCount { count: 3, present: 3 }));
+        assert_eq!(gauge.page_count(File), Ok(PageCount { count, present }));
+        assert_eq!(gauge.pages(Guarded), Ok(1..1 + present));
+        assert_eq!(gauge.get_page(File, 3).is_ok(), 3 <= present);
+        assert!(gauge.get_page(Old, 2).is_ok());
+    }
+    // The counters differ: the size was not written with the last change.
+    put(&mut bytes, 92, &[0, 0, 0, 1]);
+    put(&mut bytes, 28, &[0, 0, 0, 1]);
+    assert_eq!(Gauge::new(&bytes).page_count(File), Ok(PageCount { count: 3, present: 3 }));
 }
 
 #[test]

@@ -78,6 +78,29 @@ static void pages(void) {
     CHECK(refused(p.refused, 4, 0, 0, 0) && p.count == 0);
 }
 
+/* The size at byte 28 counts where the counters at 24 and 92 are equal, and not in the old reading; a page is still to be there. */
+static void stated(void) {
+    uint8_t file[3 * sizeof db] = {0};
+    memcpy(file, db, sizeof db);
+    memcpy(file + 2 * sizeof db, db + 100, sizeof db - 100);
+    for (uint8_t r = SHORGAVEL_OLD; r <= SHORGAVEL_GUARDED; r++) {
+        uint32_t first = r == SHORGAVEL_OLD ? 0 : 1;
+        file[31] = 2;
+        shorgavel_pages_answer p = shorgavel_pages(file, sizeof file, r);
+        CHECK(p.count == (r == SHORGAVEL_OLD ? 3 : 2) && p.present == p.count);
+        CHECK(shorgavel_open(file, sizeof file, r, first + 2).refused.number == (r == SHORGAVEL_OLD ? 0 : 8));
+        file[31] = 5;
+        p = shorgavel_pages(file, sizeof file, r);
+        CHECK(p.count == (r == SHORGAVEL_OLD ? 3 : 5) && p.present == 3);
+        CHECK(shorgavel_open(file, sizeof file, r, first + 3).refused.number == 8);
+        file[95] = 1;
+        p = shorgavel_pages(file, sizeof file, r);
+        CHECK(p.count == 3 && p.present == 3);
+        file[31] = file[95] = 0;
+        CHECK(shorgavel_pages(file, sizeof file, r).count == 3);
+    }
+}
+
 static void page(void) {
     shorgavel_page_answer p = shorgavel_page(db, sizeof db, SHORGAVEL_FILE, 1);
     CHECK(accepted(p.refused));
@@ -422,6 +445,7 @@ int main(void) {
     write_database();
     header();
     pages();
+    stated();
     page();
     entries();
     cells();

@@ -9,9 +9,8 @@ use Rattle.answers.specs.Answer.{shown}
 use Rattle.header.specs.Header.{pageSize}
 use Rattle.header.proofs.Laws.{old-passed}
 use Rattle.place.specs.declared.Page.{Page}
-use Rattle.place.specs.declared.Place.the-variants.{At}
 use Rattle.place.specs.declared.Shape.{Shape}
-use Rattle.place.specs.Place.{oldPage, filePage, placeOf, pageAt}
+use Rattle.place.specs.Place.{oldPage, filePage, pageAt}
 use Rattle.place.proofs.Laws.{old-place, shapeIn, shape-passed, shape-shown}
 use Rattle.page.specs.declared.KindAnswer.the-variants.{Known}
 use Rattle.page.specs.declared.Site.{Site}
@@ -39,7 +38,7 @@ old-site n db {s} e =
       named = refl;
       sized = is .sized ∙ size;
       ended = is .sized ∙ size;
-      placed = old-place n (length db) (pageSize db) (subst (λ (z : ℕ). placeOf (filePage n) (length db) z ≡ At (s .at) (s .from)) size (is .placed));
+      placed = old-place n (length db) (is .shape) (shapeIn old db) size (is .placed);
       header = subst (λ (z : ℕ). s .from ≤ z) size (is .header);
       kinded = subst (λ (z : ℕ). kindAt (s .from) (pageAt (s .at) z db) ≡ Known (s .kind)) size (is .kinded);
     })

@@ -39,14 +39,14 @@ whole-shown (shown rest) w = refl
 module _ (shape : Shape) (db : List ℕ) where
   -- where a page lies in the file
   abbrev pub lies : ℕ → Place
-  lies number = placeOf (filePage number) (length db) (shape .«page_size»)
+  lies number = placeOf (filePage number) (length db) shape
 
   -- the content of the page that lies at `at`
   abbrev pub contentAt : ℕ → List ℕ
   contentAt at = take (shape .end - 4) (drop (at + 4) db)
 
   pub page-within : (number : ℕ) {at from : ℕ} → lies number ≡ At at from → at + shape .«page_size» ≤ length db
-  page-within number e = rw e at (place-lies (filePage number) (length db) (shape .«page_size»)) .0
+  page-within number e = rw e at (place-lies (filePage number) (length db) shape) .0
 
   pub content-length : Shaped shape → (number : ℕ) {at from : ℕ} → lies number ≡ At at from
       → length (contentAt at) ≡ shape .end - 4

@@ -23,7 +23,7 @@ linkBy Absent = refused fa.ChainUnfit
 linkBy (At at from) = shown at
 
 abbrev pub linkAt : Shape → ℕ → List ℕ → Answer Fault ℕ
-linkAt shape number db = linkBy (placeOf (filePage number) (length db) (shape .«page_size»))
+linkAt shape number db = linkBy (placeOf (filePage number) (length db) shape)
 
 -- the content of n pages of a chain, from the page of that number on; behind the last the chain ends
 unfoldable pub chainOf : ℕ → Shape → ℕ → List ℕ → Answer Fault (List ℕ)

@@ -5,7 +5,7 @@
 // buffer is left as it was where the chain is refused.
 ghost use mathlib.Core.Path.{_≡_};
 ghost use mathlib.Core.Bool.{true};
-ghost use Prim.Native.Nat.{min, _+_, _-_, _≤_};
+ghost use Prim.Native.Nat.{_+_, _-_, _≤_};
 ghost use lib.ListN.{length, take};
 ghost use Rattle.answers.specs.declared.Refusal.the-variants.{InCell};
 ghost use Rattle.chain.specs.declared.GatherAnswer.the-variants.{Refused};
@@ -20,6 +20,7 @@ use cell::Payload;
 use fields::be_u32;
 use kinds::Kind;
 use page::Open;
+use parts::least;
 use parts::less;
 use place::Place;
 use place::Shape;
@@ -37,12 +38,6 @@ fn in_cell(page: u32, cell: usize, fault: Fault) -> GatherAnswer
     ensures { λ r. ⌜ r ≡ Refused (InCell page cell fault) ⌝ }
 {
     GatherAnswer::Refused(Refusal::InCell { page, cell, fault })
-}
-
-fn least(a: usize, b: usize) -> usize
-    ensures { λ r. ⌜ r ≡ min a b ⌝ }
-{
-    if a < b { a } else { b }
 }
 
 // Whether so many pages of a chain lie in the file, and it ends behind them.

@@ -40,7 +40,7 @@ CutsWorked = map cutAgain cuts ≡ cuts
 -- THE CHAIN: pages of 8 bytes of which 6 are used, so each has two for content
 
 abbrev pub small : Shape
-small = record { «page_size» = 8; end = 6; pages = 3 }
+small = record { «page_size» = 8; end = 6; pages = 3; present = 3 }
 
 -- pages 1, 2 and 3, and the numbers that 2 and 3 hand on to
 abbrev pub threePages : ℕ → ℕ → List ℕ

@@ -128,7 +128,14 @@ unfoldable pub headerOf : Reading → List ℕ → HeaderAnswer
 headerOf r db = headerBy (fieldsIn r db) (checkedOf r db)
 
 abbrev pub sizesIn : Reading → List ℕ → Sizes
-sizesIn r db = record { «page_size» = pageSize db; end = end r db }
+sizesIn r db =
+    record {
+      «page_size» = pageSize db;
+      end = end r db;
+      «db_size» = fieldOf 8 db;
+      «file_change_counter» = fieldOf 7 db;
+      «version_valid_for_no» = fieldOf 19 db;
+    }
 
 abbrev pub sizesBy : Sizes → Checked → SizesAnswer
 sizesBy s Passed = sh.Shown s

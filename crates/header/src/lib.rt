@@ -56,6 +56,10 @@ pub struct Sizes {
     pub page_size: u32,
     // Where the cells of a page end: its size, or in the file reading that less the reserved space.
     pub end: u32,
+    // The size in pages that the header states, and the two counters that say whether it was written with the last change.
+    pub db_size: u32,
+    pub file_change_counter: u32,
+    pub version_valid_for_no: u32,
 }
 
 pub enum SizesAnswer {
@@ -183,6 +187,9 @@ pub fn sizes_of(db: &[u8], reading: Reading) -> SizesAnswer
         Checked::Passed => SizesAnswer::Shown(Sizes {
             page_size: page_size(db),
             end: end_of(db, reading),
+            db_size: field(db, 8),
+            file_change_counter: field(db, 7),
+            version_valid_for_no: field(db, 19),
         }),
     }
 }

@@ -54,7 +54,7 @@ fn database(db: &[u8], out: &mut [u8], at: usize) -> usize {
     let shaped = place::shape_of(db, Reading::File);
     match shaped {
         ShapeAnswer::Refused(flaw) => refused(out, at, flaw),
-        ShapeAnswer::Shown(shape) => pages(db, out, at, shape.pages),
+        ShapeAnswer::Shown(shape) => pages(db, out, at, shape.present),
     }
 }
 

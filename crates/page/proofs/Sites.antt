@@ -36,13 +36,13 @@ pub record Sited (page : Page) (db : List ℕ) (s : Site) : Type 0 where
   pub named : s .page ≡ page
   pub sized : s .size ≡ shape .«page_size»
   pub ended : s .end ≡ shape .end
-  pub placed : placeOf page (length db) (shape .«page_size») ≡ At (s .at) (s .from)
+  pub placed : placeOf page (length db) shape ≡ At (s .at) (s .from)
   pub header : s .from ≤ shape .«page_size»
   pub kinded : kindAt (s .from) (pageAt (s .at) (shape .«page_size») db) ≡ Known (s .kind)
 
 module _ (page : Page) (db : List ℕ) {s : Site} where
   module _ (shape : Shape) (q : shapeOf (page .reading) db ≡ shown shape) where
-    by-kind : (at from : ℕ) → placeOf page (length db) (shape .«page_size») ≡ At at from → from ≤ shape .«page_size»
+    by-kind : (at from : ℕ) → placeOf page (length db) shape ≡ At at from → from ≤ shape .«page_size»
         → (ka : KindAnswer) → kindAt from (pageAt at (shape .«page_size») db) ≡ ka
         → (kindFor page ka >>= (λ k. shown (record { page = page; at = at; size = shape .«page_size»; end = shape .end; from = from; kind = k }))) ≡ shown s
         → Sited page db s
@@ -51,7 +51,7 @@ module _ (page : Page) (db : List ℕ) {s : Site} where
         let f : s ≡ record { page = page; at = at; size = shape .«page_size»; end = shape .end; from = from; kind = k } = cc in
         rw f (record { shape = shape; shaped = q; named = refl; sized = refl; ended = refl; placed = p; header = h; kinded = i })
 
-    by-place : (p : Place) → placeOf page (length db) (shape .«page_size») ≡ p → siteFrom page shape p db ≡ shown s → Sited page db s
+    by-place : (p : Place) → placeOf page (length db) shape ≡ p → siteFrom page shape p db ≡ shown s → Sited page db s
     by-place Absent i e = never cc
     by-place (At at from) i e = go (ltb (shape .«page_size») from) refl e
       where
@@ -66,9 +66,9 @@ module _ (page : Page) (db : List ℕ) {s : Site} where
   sited e = go (shapeOf (page .reading) db) refl e
     where
       go : (x : Answer Flaw Shape) → shapeOf (page .reading) db ≡ x
-          → (ofDatabase x >>= (λ shape. siteFrom page shape (placeOf page (length db) (shape .«page_size»)) db)) ≡ shown s → Sited page db s
+          → (ofDatabase x >>= (λ shape. siteFrom page shape (placeOf page (length db) shape) db)) ≡ shown s → Sited page db s
       go (refused flaw) q d = never cc
-      go (shown shape) q d = by-place shape q (placeOf page (length db) (shape .«page_size»)) refl d
+      go (shown shape) q d = by-place shape q (placeOf page (length db) shape) refl d
 
   pub site-again : Sited page db s → siteOf page db ≡ shown s
   unfolding siteOf
@@ -78,7 +78,7 @@ module _ (page : Page) (db : List ℕ) {s : Site} where
 -- it lies in the bytes, and its cells end in it
 module _ (page : Page) (db : List ℕ) {s : Site} (is : Sited page db s) where
   pub site-there : s .at + s .size ≤ length db
-  site-there = rw (is .sized) ((rw (is .placed) at (place-lies page (length db) (is .shape .«page_size»))) .0)
+  site-there = rw (is .sized) ((rw (is .placed) at (place-lies page (length db) (is .shape))) .0)
 
   pub site-end : s .end ≤ s .size
   site-end = rw (is .sized, is .ended) (end-within (page .reading) db (is .shaped))

@@ -55,7 +55,7 @@ siteFrom page shape (At at from) db =
 unfoldable pub siteOf : Page → List ℕ → Answer Refusal Site
 siteOf page db = do
   shape ← ofDatabase (shapeOf (page .reading) db)
-  siteFrom page shape (placeOf page (length db) (shape .«page_size»)) db
+  siteFrom page shape (placeOf page (length db) shape) db
 
 -- ITS HEAD AND ITS POINTERS
 

@@ -73,8 +73,8 @@ headerBy (ha.Refused flaw) = record { refused = refusedBy (OfDatabase flaw); fie
 headerBy (ha.Shown fields) = record { refused = accepted; fields = fields }
 
 abbrev pub pagesBy : ShapeAnswer → Pages
-pagesBy (sh.Refused flaw) = record { refused = refusedBy (OfDatabase flaw); count = 0 }
-pagesBy (sh.Shown shape) = record { refused = accepted; count = shape .pages }
+pagesBy (sh.Refused flaw) = record { refused = refusedBy (OfDatabase flaw); count = 0; present = 0 }
+pagesBy (sh.Shown shape) = record { refused = accepted; count = shape .pages; present = shape .present }
 
 -- THE HEAD OF A PAGE
 

@@ -117,10 +117,12 @@ pub fn pages_by(answer: ShapeAnswer) -> Pages
         ShapeAnswer::Refused(flaw) => Pages {
             refused: refused_by(Refusal::OfDatabase(flaw)),
             count: 0,
+            present: 0,
         },
         ShapeAnswer::Shown(shape) => Pages {
             refused: no_refusal(),
             count: shape.pages,
+            present: shape.present,
         },
     }
 }

@@ -1,6 +1,7 @@
-// Parts of the bytes that a caller lends, whatever place and length are asked for: what does not lie there is left out.
+// Parts of the bytes that a caller lends, whatever place and length are asked for: what does not lie there is left out; and the
+// differences and bounds that go with them.
 ghost use mathlib.Core.Path.{_≡_};
-ghost use Prim.Native.Nat.{_-_};
+ghost use Prim.Native.Nat.{min, _-_};
 ghost use lib.ListN.{take, drop};
 
 // The bytes from `at` on.
@@ -29,4 +30,10 @@ pub fn less(a: u64, b: u64) -> u64
     ensures { λ r. ⌜ r ≡ a - b ⌝ }
 {
     if a < b { 0 } else { a - b }
+}
+
+pub fn least(a: usize, b: usize) -> usize
+    ensures { λ r. ⌜ r ≡ min a b ⌝ }
+{
+    if a < b { a } else { b }
 }

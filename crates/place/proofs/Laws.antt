@@ -1,6 +1,6 @@
 -- What callers cite of pages: that one which is there lies in the bytes, and how long it is; and what a shape says.
-use Prim.Native.Nat.{ℕ, suc, _+_, _-_, _*_, _^_, _≤_, _<_}
-use mathlib.Core.Path.{_≡_, refl}
+use Prim.Native.Nat.{ℕ, suc, min, _+_, _-_, _*_, _^_, _≤_, _<_}
+use mathlib.Core.Path.{_≡_, refl, sym}
 use mathlib.Core.List.{List}
 use mathlib.Core.Bool.{Bool, true, false}
 use native.Mathlib.Nat.{add-mul, mul-le-mul-right}
@@ -18,15 +18,15 @@ use Rattle.answers.specs.declared.Checked.the-variants.{Passed}
 use Rattle.answers.specs.Answer.{Answer, refused, shown}
 use Rattle.header.specs.declared.SizesAnswer.{SizesAnswer}
 use Rattle.header.specs.declared.SizesAnswer.the-variants as si
-use Rattle.header.specs.Header.{pageSize, end, checkedOf, sizesOf}
+use Rattle.header.specs.Header.{pageSize, checkedOf, sizesIn, sizesOf}
 use Rattle.header.proofs.Laws.{sizes-shown, sizes-passed, usable-below}
 use Rattle.place.specs.declared.Page.{Page}
 use Rattle.place.specs.declared.Place.{Place}
 use Rattle.place.specs.declared.Place.the-variants.{At, Absent}
 use Rattle.place.specs.declared.Shape.{Shape}
 use Rattle.place.specs.declared.ShapeAnswer.the-variants as sh
-use Rattle.place.specs.Place.{oldPage, filePage, headerAt, placeFrom, placeBy, placeOf, pageAt}
-use Rattle.place.specs.Shape.{wholePages, shapeBy, shapeOf, shapeAnswer}
+use Rattle.place.specs.Place.{oldPage, filePage, headerAt, placeFrom, behindLast, placeBy, placeOf, pageAt}
+use Rattle.place.specs.Shape.{wholePages, shapeWith, shapeBy, shapeOf, shapeAnswer}
 
 -- PLACES
 
@@ -49,26 +49,30 @@ from-lies bytes size index = go (ltb bytes (index * size + size)) refl
     go true e = tt
     go false e = (ltb-false bytes (index * size + size) e, header-near index)
 
-by-lies : (r : Reading) (bytes size number : ℕ) → Lies size bytes (placeBy r bytes size number)
-by-lies old bytes size number = from-lies bytes size number
-by-lies file bytes size number = go (eqb number 0)
+by-lies : (r : Reading) (bytes : ℕ) (shape : Shape) (number : ℕ) → Lies (shape .«page_size») bytes (placeBy r bytes shape number)
+by-lies old bytes shape number = from-lies bytes (shape .«page_size») number
+by-lies file bytes shape number = go (eqb number 0) (behindLast shape number)
   where
-    go : (b : Bool) → Lies size bytes (pick b Absent (placeFrom bytes size (number - 1)))
-    go true = tt
-    go false = from-lies bytes size (number - 1)
+    go : (b d : Bool) → Lies (shape .«page_size») bytes (pick b Absent (pick d Absent (placeFrom bytes (shape .«page_size») (number - 1))))
+    go true d = tt
+    go false true = tt
+    go false false = from-lies bytes (shape .«page_size») (number - 1)
 
-pub place-lies : (page : Page) (bytes size : ℕ) → Lies size bytes (placeOf page bytes size)
+pub place-lies : (page : Page) (bytes : ℕ) (shape : Shape) → Lies (shape .«page_size») bytes (placeOf page bytes shape)
 unfolding placeOf
-place-lies page bytes size = by-lies (page .reading) bytes size (page .number)
+place-lies page bytes shape = by-lies (page .reading) bytes shape (page .number)
 
--- a page of the file reading stands where the old one has it, counted from 0: there is no page 0
-pub old-place : (n bytes size : ℕ) {at from : ℕ} → placeOf (filePage n) bytes size ≡ At at from → placeOf (oldPage (n - 1)) bytes size ≡ At at from
+-- a page of the file reading stands where the old one has it, counted from 0, in any shape of the same size
+pub old-place : (n bytes : ℕ) (s t : Shape) {at from : ℕ} → s .«page_size» ≡ t .«page_size»
+    → placeOf (filePage n) bytes s ≡ At at from → placeOf (oldPage (n - 1)) bytes t ≡ At at from
 unfolding placeOf
-old-place n bytes size {at} {from} e = go (eqb n 0) e
+old-place n bytes s t {at} {from} same e = rw (sym same) (go (eqb n 0) (behindLast s n) e)
   where
-    go : (b : Bool) → pick b Absent (placeFrom bytes size (n - 1)) ≡ At at from → placeFrom bytes size (n - 1) ≡ At at from
-    go true d = never cc
-    go false d = d
+    go : (b d : Bool) → pick b Absent (pick d Absent (placeFrom bytes (s .«page_size») (n - 1))) ≡ At at from
+        → placeFrom bytes (s .«page_size») (n - 1) ≡ At at from
+    go true d h = never cc
+    go false true h = never cc
+    go false false h = h
 
 -- an index and a size of 32 bits each
 pub product-fits : {index size : ℕ} → index < 2 ^ 32 → size < 2 ^ 32 → index * size + size < 2 ^ 64
@@ -93,7 +97,7 @@ shape-unanswered (shown t) e = never cc
 
 module _ (r : Reading) (db : List ℕ) where
   abbrev pub shapeIn : Shape
-  shapeIn = record { «page_size» = pageSize db; end = end r db; pages = wholePages (length db) (pageSize db) }
+  shapeIn = shapeWith r (wholePages (length db) (pageSize db)) (sizesIn r db)
 
   -- where the checks pass
   pub shape-passed : checkedOf r db ≡ Passed → shapeOf r db ≡ shown shapeIn
@@ -104,14 +108,22 @@ module _ (r : Reading) (db : List ℕ) where
   unfolding shapeOf
   shape-shown {s} e = go (sizesOf r db) refl e
     where
-      go : (x : SizesAnswer) → sizesOf r db ≡ x → shapeBy (length db) x ≡ shown s → (checkedOf r db ≡ Passed) × (s ≡ shapeIn)
+      go : (x : SizesAnswer) → sizesOf r db ≡ x → shapeBy r (length db) x ≡ shown s → (checkedOf r db ≡ Passed) × (s ≡ shapeIn)
       go (si.Refused flaw) q d = never cc
       go (si.Shown sizes) q d =
           let k = sizes-shown r db sizes q in
-          let i : s ≡ record { «page_size» = sizes .«page_size»; end = sizes .end; pages = wholePages (length db) (sizes .«page_size») } = cc in
+          let i : s ≡ shapeWith r (wholePages (length db) (sizes .«page_size»)) sizes = cc in
           (k .0, rw (k .1) at i)
 
 -- where the cells of a page end is in the page
 pub end-within : (r : Reading) (db : List ℕ) {s : Shape} → shapeOf r db ≡ shown s → s .end ≤ s .«page_size»
 end-within old db e = rw (shape-shown old db e .1) (omega arith)
 end-within file db e = rw (shape-shown file db e .1) (usable-below db)
+
+-- how many of the pages that are counted fit in the bytes
+pub shape-present : (r : Reading) (db : List ℕ) {s : Shape} → shapeOf r db ≡ shown s → s .present ≡ min (s .pages) (wholePages (length db) (s .«page_size»))
+shape-present r db e = rw (shape-shown r db e .1) refl
+
+-- the old reading counts those that fit
+pub old-pages : (db : List ℕ) {s : Shape} → shapeOf old db ≡ shown s → s .pages ≡ wholePages (length db) (s .«page_size»)
+old-pages db e = rw (shape-shown old db e .1) refl

@@ -1,12 +1,15 @@
 // The pages of a file: how many there are, where one lies, and which bytes are its. Nothing else counts pages.
 //
 // From the file format, 1.2 "Pages", and the Rust's `get_page`. A page is named by its number as a reading counts, the Rust
-// from 0 and the format from 1, and is there if it lies wholly in the bytes.
+// from 0 and the format from 1, and is there if it lies wholly in the bytes. In the file reading a file may have fewer pages
+// than its bytes hold, or more: its header states how many, and old pages behind the last are none of it.
 ghost use mathlib.Core.Path.{_≡_};
 ghost use Rattle.place.specs.Place.{oldPage, filePage, headerAt, placeFrom, placeOf, pageAt};
-ghost use Rattle.place.specs.Shape.{wholePages, shapeOf, shapeAnswer};
+ghost use Rattle.place.specs.Shape.{wholePages, stated, countOf, shapeOf, shapeAnswer};
 use answers::Flaw;
+use header::Sizes;
 use header::SizesAnswer;
+use parts::least;
 use reading::Reading;
 
 // A page by its number, as its reading counts.
@@ -22,6 +25,8 @@ pub struct Shape {
     pub end: u32,
     // How many pages there are.
     pub pages: usize,
+    // How many of them are wholly in the bytes.
+    pub present: usize,
 }
 
 pub enum ShapeAnswer {
@@ -65,6 +70,31 @@ fn whole_pages(bytes: usize, size: u32) -> usize
     bytes / (size as usize)
 }
 
+// Whether the size that the header states was written with the last change.
+fn is_stated(sizes: Sizes) -> bool
+    ensures { λ r. ⌜ r ≡ stated sizes ⌝ }
+{
+    if sizes.db_size == 0 {
+        return false;
+    }
+    sizes.file_change_counter == sizes.version_valid_for_no
+}
+
+// How many pages there are, of which so many fit in the bytes.
+fn count_of(reading: Reading, whole: usize, sizes: Sizes) -> usize
+    ensures { λ r. ⌜ r ≡ countOf reading whole sizes ⌝ }
+{
+    match reading {
+        Reading::Old => whole,
+        Reading::File => {
+            if is_stated(sizes) {
+                return sizes.db_size as usize;
+            }
+            whole
+        }
+    }
+}
+
 // The checks of the header, and then the shape of the pages.
 pub fn shape_of(db: &[u8], reading: Reading) -> ShapeAnswer
     ensures { λ r. ⌜ r ≡ shapeAnswer (shapeOf reading (now (db .entry))) ⌝ }
@@ -72,11 +102,16 @@ pub fn shape_of(db: &[u8], reading: Reading) -> ShapeAnswer
     let sized = header::sizes_of(db, reading);
     match sized {
         SizesAnswer::Refused(flaw) => ShapeAnswer::Refused(flaw),
-        SizesAnswer::Shown(sizes) => ShapeAnswer::Shown(Shape {
-            page_size: sizes.page_size,
-            end: sizes.end,
-            pages: whole_pages(db.len(), sizes.page_size),
-        }),
+        SizesAnswer::Shown(sizes) => {
+            let whole = whole_pages(db.len(), sizes.page_size);
+            let pages = count_of(reading, whole, sizes);
+            ShapeAnswer::Shown(Shape {
+                page_size: sizes.page_size,
+                end: sizes.end,
+                pages,
+                present: least(pages, whole),
+            })
+        }
     }
 }
 
@@ -101,9 +136,9 @@ fn place_from(bytes: usize, size: u32, index: u32) -> Place
     }
 }
 
-// Where a page lies in so many bytes. The file format has no page 0.
+// Where a page lies in so many bytes. The file format has no page 0, and none behind the last.
 pub fn place_of(bytes: usize, shape: Shape, page: Page) -> Place
-    ensures { λ r. ⌜ r ≡ placeOf page bytes (shape .«page_size») ⌝ }
+    ensures { λ r. ⌜ r ≡ placeOf page bytes shape ⌝ }
 {
     let reading = page.reading;
     match reading {
@@ -112,6 +147,9 @@ pub fn place_of(bytes: usize, shape: Shape, page: Page) -> Place
         }
         Reading::File => {
             if page.number == 0 {
+                return Place::Absent;
+            }
+            if shape.pages < page.number as usize {
                 return Place::Absent;
             }
             return place_from(bytes, shape.page_size, page.number - 1);

@@ -23,7 +23,15 @@ pub fn database(db: &[u8], out: &mut [u8], at: usize) -> usize {
             refused(out, n, numbers)
         }
         ShapeAnswer::Shown(shape) => {
-            pages(db, out, at, Reading::File, Telling::Numbers, 1, shape.pages)
+            pages(
+                db,
+                out,
+                at,
+                Reading::File,
+                Telling::Numbers,
+                1,
+                shape.present,
+            )
         }
     }
 }

@@ -18,11 +18,12 @@ pub struct Header {
     pub fields: header::Header,
 }
 
-// How many pages there are.
+// How many pages there are, and how many of them are wholly in the bytes.
 #[repr(C)]
 pub struct Pages {
     pub refused: Refused,
     pub count: usize,
+    pub present: usize,
 }
 
 // The head of a page whose cells are all accepted.

@@ -1,6 +1,7 @@
 -- The answer goes by what the checks came to, and a database that passed them has its hundred bytes.
 use Prim.Native.Nat.{_≤_}
 use mathlib.Core.Path.{_≡_, sym, _∙_}
+use lib.Dec.{lit<}
 use lib.ListN.{length}
 use denote.Ref.{now}
 use borrow.Author.Needs.{needs}
@@ -34,13 +35,24 @@ page-size-requires c κs = whole c
 end-of-requires : tie.Need-end-of-requires
 end-of-requires c κs = whole (c .before)
 
+field-requires : tie.Need-field-requires
+field-requires c κs = (lit< tt, whole (c .before .before))
+
+field-requires-2 : tie.Need-field-requires-2
+field-requires-2 c κs = (lit< tt, whole (c .before .before .before))
+
+field-requires-3 : tie.Need-field-requires-3
+field-requires-3 c κs = (lit< tt, whole (c .before .before .before .before))
+
 returns : tie.Need-returns
 unfolding sizesOf
 returns c = rw (sym (c .before .before .before .checked .ensures) ∙ c .before .passed .given .1)
 
 returns-2 : tie.Need-returns-2
 unfolding sizesOf
-returns-2 c = rw (passed (c .before .before), c .before .page-size .ensures .0, c .end-of .ensures)
+returns-2 c =
+    let k = c .before .before .before in
+    rw (passed (k .before .before), k .before .page-size .ensures .0, k .end-of .ensures, c .before .before .field .ensures, c .before .field2 .ensures, c .field3 .ensures)
 
 pub sizes-of-spec : {M : Type 1} → statement M
 sizes-of-spec =
@@ -51,5 +63,8 @@ sizes-of-spec =
     enum-told
     page-size-requires
     end-of-requires
+    field-requires
+    field-requires-2
+    field-requires-3
     returns
     returns-2)

@@ -1,5 +1,5 @@
 -- Each reading counts in its own way.
-use borrow.Author.Tests.{eq-eqb, ne-eqb}
+use borrow.Author.Tests.{lt-ltb, le-ltb, eq-eqb, ne-eqb}
 use Rattle.place.specs.Place.{placeOf}
 use borrow.Author.Needs.{needs}
 use Rattle.place.proofs.place_of.Statement.{statement}
@@ -24,16 +24,26 @@ returns-2 : tie.Need-returns-2
 unfolding placeOf
 returns-2 c = rw (c .before .before .enum-told2 .given .1, eq-eqb _ 0 (c .if1 .taken))
 
+cast-if2 : tie.Need-cast-if2
+cast-if2 c = search needs
+
+returns-3 : tie.Need-returns-3
+unfolding placeOf
+returns-3 c =
+    let k = c .before .before .before in
+    rw (k .before .before .enum-told2 .given .1, ne-eqb _ 0 (k .if1 .left), lt-ltb _ _ (c .if2 .taken))
+
 sub-place-from : tie.Need-sub-place-from
 sub-place-from c = search needs
 
 place-from-requires-2 : tie.Need-place-from-requires-2
 place-from-requires-2 c κs = search needs
 
-returns-3 : tie.Need-returns-3
+returns-4 : tie.Need-returns-4
 unfolding placeOf
-returns-3 c =
-    rw (c .before .before .before .before .enum-told2 .given .1, ne-eqb _ 0 (c .before .before .if1 .left)) (c .place-from2 .ensures)
+returns-4 c =
+    let k = c .before .before .before .before .before in
+    rw (k .before .before .enum-told2 .given .1, ne-eqb _ 0 (k .if1 .left), le-ltb _ _ (c .before .before .if2 .left)) (c .place-from2 .ensures)
 
 pub place-of-spec : {M : Type 1} → statement M
 place-of-spec =
@@ -44,6 +54,8 @@ place-of-spec =
     returns
     enum-told-2
     returns-2
+    cast-if2
+    returns-3
     sub-place-from
     place-from-requires-2
-    returns-3)
+    returns-4)

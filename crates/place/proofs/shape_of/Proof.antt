@@ -17,6 +17,12 @@ enum-known-sized-2 c = search needs
 whole-pages-requires : tie.Need-whole-pages-requires
 whole-pages-requires c κs = search needs
 
+count-of-requires : tie.Need-count-of-requires
+count-of-requires c κs = search needs
+
+least-requires : tie.Need-least-requires
+least-requires c κs = search needs
+
 returns : tie.Need-returns
 unfolding shapeOf
 returns c = rw (sym (c .before .before .before .sizes-of .ensures) ∙ c .before .sized .given .1)
@@ -24,7 +30,8 @@ returns c = rw (sym (c .before .before .before .sizes-of .ensures) ∙ c .before
 returns-2 : tie.Need-returns-2
 unfolding shapeOf
 returns-2 c =
-    rw (sym (c .before .before .before .before .sizes-of .ensures) ∙ c .before .before .sized2 .given .1, c .whole-pages .ensures)
+    let k = c .before .before in
+    rw (sym (k .before .before .before .before .sizes-of .ensures) ∙ k .before .before .sized2 .given .1, c .least .ensures, c .before .count-of .ensures, k .whole-pages .ensures)
 
 pub shape-of-spec : {M : Type 1} → statement M
 shape-of-spec =
@@ -34,5 +41,7 @@ shape-of-spec =
     enum-known-sized
     enum-known-sized-2
     whole-pages-requires
+    count-of-requires
+    least-requires
     returns
     returns-2)
