@@ -5,6 +5,9 @@ use crate::{Notes, Page, Refusal, Value, Values, Width};
 use std::iter::FusedIterator;
 use std::ops::Range;
 
+/// The refusal for a payload that spills.
+const SPILLS: u8 = 18;
+
 /// A cell of a page, checked by itself: its row number and the values of its record.
 ///
 /// It has all of its values, in memory that the next cell is given once this one is dropped. A cell that is kept keeps it.
@@ -24,7 +27,8 @@ impl<'a> Cell<'a> {
         Ok(Cell { bytes, rowid, table })
     }
 
-    /// The same, and where the payload spills, it is put together in the notes.
+    /// The same, and where the payload spills, it is put together in the notes. Behind a row that spilled they are lent at
+    /// once; else where the call without them is refused for such a payload, so that a whole row behind another costs no more.
     #[inline]
     pub(crate) fn with(
         bytes: Bytes<'a>,
@@ -32,6 +36,12 @@ impl<'a> Cell<'a> {
         cell: usize,
         notes: &'a mut Notes,
     ) -> Result<Cell<'a>, Refusal> {
+        if !notes.last_spilled() {
+            match Cell::of(bytes, page, cell) {
+                Err(refusal) if refusal.number() == SPILLS => {}
+                found => return found,
+            }
+        }
         let (rowid, table, source) = Table::fetch_with(bytes, page, cell, notes)?;
         Ok(Cell { bytes: notes.source(source, bytes), rowid, table })
     }

@@ -59,12 +59,20 @@ const FIRST: usize = 8 * 1024;
 #[derive(Clone, Default)]
 pub struct Notes {
     buffer: Vec<u8>,
+    /// Whether the row spilled that they were lent for last.
+    spilled: bool,
 }
 
 impl Notes {
     /// With no room yet: there is none until a payload spills.
     pub const fn new() -> Notes {
-        Notes { buffer: Vec::new() }
+        Notes { buffer: Vec::new(), spilled: false }
+    }
+
+    /// Whether the next row is asked for with notes at once: notes come one behind the other.
+    #[inline]
+    pub(crate) fn last_spilled(&self) -> bool {
+        self.spilled
     }
 
     /// The call for a row of an opened page, with as much room as it asks for.
@@ -79,6 +87,7 @@ impl Notes {
         loop {
             let lent = calls::row_lent(bytes.0, page, cell, table, self.room(bytes));
             if lent.row.refused.number != TOO_SHORT || !self.grow(bytes) {
+                self.spilled = lent.source == calls::BUFFER;
                 return lent;
             }
         }

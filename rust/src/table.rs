@@ -3,9 +3,6 @@ use crate::calls;
 use crate::{Notes, Refusal};
 use std::cell::Cell;
 
-/// The refusal for a payload that spills.
-const SPILLS: u8 = 18;
-
 /// How many values a new table has places for. A gauge's rows have six.
 const PLACES: usize = 8;
 
@@ -77,23 +74,8 @@ impl Table {
         Ok((row.number, table))
     }
 
-    /// The same with notes lent, and the source of the bytes that the places of its values count in. They are asked for
-    /// where the call without them is refused for a payload that spills, so that a whole row costs no more.
-    #[inline]
+    /// The same with notes lent, and the source of the bytes that the places of its values count in.
     pub fn fetch_with(
-        bytes: Bytes<'_>,
-        page: &calls::Opened,
-        cell: usize,
-        notes: &mut Notes,
-    ) -> Result<(i64, Table, u8), Refusal> {
-        match Table::fetch(bytes, page, cell) {
-            Err(refusal) if refusal.number() == SPILLS => Table::gather(bytes, page, cell, notes),
-            found => found.map(|(rowid, table)| (rowid, table, calls::DATABASE)),
-        }
-    }
-
-    /// A cell whose payload spills.
-    fn gather(
         bytes: Bytes<'_>,
         page: &calls::Opened,
         cell: usize,

@@ -1,3 +1,4 @@
 pub mod Pointers
 pub mod Located
+pub mod Numbered
 pub mod Agreement

@@ -4,16 +4,20 @@
 // itself, whatever the page's other cells are like.
 ghost use mathlib.Core.Path.{_≡_};
 ghost use Prim.Native.Nat.{_≤_, _<_};
+ghost use Rattle.answers.specs.declared.Refusal.the-variants.{InCell};
 ghost use Rattle.page.specs.Kinds.{pointersEnd};
 ghost use Rattle.page.specs.Open.{onPage};
 ghost use Rattle.cell.specs.Cell.{answerOf};
 ghost use Rattle.cells.specs.Pointers.{pointerAt, outside, cellAt, Fitting};
 ghost use Rattle.cells.specs.Located.{rowNumber, locatedFrom, locatedIn, locatedOf, locatedAnswer, partIn};
+ghost use Rattle.cells.specs.Numbered.{numbersFrom, numbersIn, numberedAnswer};
 use answers::Fault;
 use answers::Reason;
 use answers::Refusal;
 use cell::Cell;
 use cell::CellAnswer;
+use cell::Numbers;
+use cell::NumbersAnswer;
 use fields::be_u16;
 use kinds::Kind;
 use page::Open;
@@ -30,6 +34,12 @@ pub struct Located {
 
 pub enum LocatedAnswer {
     Shown(Located),
+    Refused(Refusal),
+}
+
+// The numbers alone of a cell.
+pub enum NumberedAnswer {
+    Shown(Numbers),
     Refused(Refusal),
 }
 
@@ -83,6 +93,16 @@ fn cell_by(page: &[u8], opened: Open, pointer: u32) -> CellAnswer
     cell::cell_of(&page[start..end], reading, kind, opened.end)
 }
 
+fn in_cell(page: Page, cell: usize, fault: Fault) -> Refusal
+    ensures { λ r. ⌜ r ≡ InCell (page .number) cell fault ⌝ }
+{
+    Refusal::InCell {
+        page: page.number,
+        cell,
+        fault,
+    }
+}
+
 fn absent(page: Page, reason: Reason) -> LocatedAnswer
     ensures { λ r. ⌜ r ≡ locatedAnswer (onPage page reason) ⌝ }
 {
@@ -104,11 +124,7 @@ fn located_in(page: &[u8], opened: Open, i: usize) -> LocatedAnswer
     let pointer = pointer_at(page, opened, i);
     let shown = cell_by(page, opened, pointer);
     match shown {
-        CellAnswer::Faulty(fault) => LocatedAnswer::Refused(Refusal::InCell {
-            page: named.number,
-            cell: i,
-            fault,
-        }),
+        CellAnswer::Faulty(fault) => LocatedAnswer::Refused(in_cell(named, i, fault)),
         CellAnswer::Shown(cell) => LocatedAnswer::Shown(Located {
             opened,
             pointer,
@@ -156,6 +172,46 @@ pub fn part_in(db: &[u8], opened: Open, i: usize) -> &[u8]
         return &db[0..0];
     }
     &bytes[start..end]
+}
+
+// The numbers alone of cell `i` of an opened page whose bytes are `page`.
+fn numbers_from(page: &[u8], opened: Open, i: usize) -> NumberedAnswer
+    requires { ⌜ Fitting opened (now page) ⌝ }
+    ensures { λ r. ⌜ r ≡ numberedAnswer (numbersFrom opened i (now (page .entry))) ⌝ }
+{
+    let named = opened.page;
+    if opened.cells <= i {
+        return NumberedAnswer::Refused(Refusal::OnPage {
+            page: named.number,
+            reason: Reason::NoSuchCell,
+        });
+    }
+    let pointer = pointer_at(page, opened, i);
+    if is_outside(opened, pointer) {
+        return NumberedAnswer::Refused(in_cell(named, i, Fault::PointerOutside));
+    }
+    let reading = named.reading;
+    let kind = opened.kind;
+    let start = pointer as usize;
+    let end = opened.end as usize;
+    let NumbersAnswer::Read(numbers) = cell::numbers_of(&page[start..end], reading, kind) else {
+        return NumberedAnswer::Refused(in_cell(named, i, Fault::CellCut));
+    };
+    NumberedAnswer::Shown(numbers)
+}
+
+// The numbers alone of cell `i` of a page that was opened, or that a caller made up: what is behind them is not looked at.
+pub fn numbers_in(db: &[u8], opened: Open, i: usize) -> NumberedAnswer
+    ensures { λ r. ⌜ r ≡ numberedAnswer (numbersIn opened i (now (db .entry))) ⌝ }
+{
+    if page::lies(db.len(), opened) {
+        return numbers_from(place::bytes_of(db, opened.at, opened.size), opened, i);
+    }
+    let named = opened.page;
+    NumberedAnswer::Refused(Refusal::OnPage {
+        page: named.number,
+        reason: Reason::PageAbsent,
+    })
 }
 
 // The row number or key of a located cell: 64 bits of two's complement.

@@ -7,7 +7,7 @@ use native.Mathlib.Nat.{le-of-eq}
 use native.Mathlib.Omega.{arith}
 use lib.Dec.{ltb}
 use lib.ListN.{length, take, drop, length-append, length-drop, take-append-drop, drop-of-length-le}
-use lib.Seq.{length-take-le, take-length, take-append-le, take-append-add, take-at, drop-at, drop-drop}
+use lib.Seq.{length-take-le, take-length, take-append-le, take-append-add, take-append-seam, take-at, drop-at, drop-drop}
 use borrow.Author.Tests.{ltb-true, ltb-false}
 use Rattle.laws.proofs.Parts.{tail}
 use Rattle.chain.specs.Copied.{laidAt}
@@ -67,3 +67,12 @@ laid-part at q b h =
 -- the buffer keeps its length
 pub laid-length : (at : ℕ) (q b : List ℕ) → at + length q ≤ length b → length (laidAt at q b) ≡ length b
 laid-length at q b h = rw (length-append, length-append, length-take-le at b (omega arith), length-drop) (omega arith)
+
+-- what q was laid into first begins with it
+pub through : (q rest : List ℕ) {after : List ℕ} {n : ℕ} → n ≡ length q → after ≡ take (length q) q ++ rest → take (n - 0) (drop 0 after) ≡ q
+through q rest {n = n} e f = let m : n - 0 ≡ length q = omega (arith, e) in rw (m, f, take-length q) (take-append-seam q rest)
+
+pub laid-through : (at : ℕ) (q b : List ℕ) {s : List ℕ} → s ≡ q → at + length q ≤ length b
+    → let part = take (length b - at) (drop at b) in
+    take at b ++ (take (length s) s ++ drop (length s) part ++ drop (length b - at) (drop at b)) ≡ laidAt at q b
+laid-through at q b e h = rw e (laid-part at q b h)

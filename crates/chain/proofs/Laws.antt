@@ -1,6 +1,6 @@
 -- What callers cite of a gathered cell: it taken apart, each way to refuse it, and how long its payload is.
 use Prim.Native.Nat.{ℕ, _+_, _≤_}
-use mathlib.Core.Path.{_≡_, refl}
+use mathlib.Core.Path.{_≡_, refl, sym, _∙_}
 use mathlib.Core.List.{List}
 use mathlib.Core.Bool.{Bool, true, false}
 use lib.Dec.{ltb}
@@ -10,22 +10,23 @@ use Rattle.laws.proofs.Never.{never}
 use Rattle.reading.specs.declared.Reading.the-variants.{File as file}
 use Rattle.answers.specs.declared.Fault.{Fault}
 use Rattle.answers.specs.declared.Flaw.{Flaw}
+use Rattle.answers.specs.declared.Refusal.{Refusal}
 use Rattle.answers.specs.declared.Refusal.the-variants.{OfDatabase, InCell}
 use Rattle.answers.specs.Answer.{Answer, refused, shown}
 use Rattle.kinds.specs.declared.Kind.{Kind}
 use Rattle.cell.specs.declared.Numbers.{Numbers}
 use Rattle.cell.specs.declared.Payload.the-variants as pa
-use Rattle.cell.specs.Numbers.{numbersOf}
 use Rattle.header.proofs.Laws.{passed-usable}
 use Rattle.place.specs.declared.Shape.{Shape}
 use Rattle.place.specs.Shape.{shapeOf}
 use Rattle.place.proofs.Laws.{shape-shown, end-within}
 use Rattle.page.specs.declared.Open.{Open}
 use Rattle.cells.specs.Located.{partIn}
+use Rattle.cells.specs.Numbered.{numbersIn}
 use Rattle.chain.specs.Chain.{payloadOf}
 use Rattle.chain.specs.Copied.{Shaped, whole}
 use Rattle.chain.specs.Length.{AsLongAsSaid}
-use Rattle.chain.specs.Gathered.{Gathered, gatheredOf, gatheredIn, payloadAnswer}
+use Rattle.chain.specs.Gathered.{Gathered, gatheredWith, gatheredIn, payloadAnswer}
 use Rattle.chain.proofs.Payloads.{kept, chain, joined, payload-short, payload-cut, payload-unfit, payload-joined}
 use Rattle.chain.proofs.Payloads.{joined-length}
 
@@ -76,69 +77,73 @@ payload-length k shape room p s db is {q} e = by-room (ltb room p) refl
 
 -- A GATHERED CELL
 
--- the numbers of cell i, and the payload behind them
-abbrev pub cellNumbers : Open → ℕ → List ℕ → Answer Fault Numbers
-cellNumbers o i db = numbersOf file (o .kind) (partIn o i db)
-
+-- the payload behind its numbers
 abbrev pub payloadBehind : Open → ℕ → ℕ → List ℕ → Shape → Numbers → Answer Fault (List ℕ)
 payloadBehind o i room db shape n = payloadOf (o .kind) shape room (n .size .value) (drop (n .length) (partIn o i db)) db
 
-record Parts (o : Open) (i room : ℕ) (db : List ℕ) (g : Gathered) : Type 0 where
+record Parts (o : Open) (i : ℕ) (n : Numbers) (room : ℕ) (db : List ℕ) (g : Gathered) : Type 0 where
   shape : Shape
   shaped : shapeOf file db ≡ shown shape
-  numbers : cellNumbers o i db ≡ shown (g .numbers)
-  payload : payloadBehind o i room db shape (g .numbers) ≡ shown (g .payload)
+  numbers : g .numbers ≡ n
+  payload : payloadBehind o i room db shape n ≡ shown (g .payload)
 
-module _ (o : Open) (i room : ℕ) (db : List ℕ) where
-  pub gathered-unshaped : {flaw : Flaw} → shapeOf file db ≡ refused flaw → gatheredIn o i room db ≡ refused (OfDatabase flaw)
-  unfolding gatheredIn
+module _ (o : Open) (i : ℕ) (n : Numbers) (room : ℕ) (db : List ℕ) where
+  pub gathered-unshaped : {flaw : Flaw} → shapeOf file db ≡ refused flaw → gatheredWith o i n room db ≡ refused (OfDatabase flaw)
+  unfolding gatheredWith
   gathered-unshaped e = rw e
 
   module _ {shape : Shape} (e : shapeOf file db ≡ shown shape) where
-    pub gathered-cut : {fault : Fault} → cellNumbers o i db ≡ refused fault
-        → gatheredIn o i room db ≡ refused (InCell (o .page .number) i fault)
-    unfolding gatheredIn gatheredOf
-    gathered-cut n = rw (e, n)
+    pub gathered-faulty : {fault : Fault} → payloadBehind o i room db shape n ≡ refused fault
+        → gatheredWith o i n room db ≡ refused (InCell (o .page .number) i fault)
+    unfolding gatheredWith
+    gathered-faulty q = rw (e, q)
 
-    module _ {n : Numbers} (m : cellNumbers o i db ≡ shown n) where
-      pub gathered-faulty : {fault : Fault} → payloadBehind o i room db shape n ≡ refused fault
-          → gatheredIn o i room db ≡ refused (InCell (o .page .number) i fault)
-      unfolding gatheredIn gatheredOf
-      gathered-faulty q = rw (e, m, q)
+    pub gathered-shown : {payload : List ℕ} → payloadBehind o i room db shape n ≡ shown payload
+        → gatheredWith o i n room db ≡ shown (record { numbers = n; payload = payload })
+    unfolding gatheredWith
+    gathered-shown q = rw (e, q)
 
-      pub gathered-shown : {payload : List ℕ} → payloadBehind o i room db shape n ≡ shown payload
-          → gatheredIn o i room db ≡ shown (record { numbers = n; payload = payload })
-      unfolding gatheredIn gatheredOf
-      gathered-shown q = rw (e, m, q)
-
-  gathered : {g : Gathered} → gatheredIn o i room db ≡ shown g → Parts o i room db g
+  gathered : {g : Gathered} → gatheredWith o i n room db ≡ shown g → Parts o i n room db g
   gathered {g} e = by-shape (shapeOf file db) refl
     where
-      by-payload : {shape : Shape} → shapeOf file db ≡ shown shape → {n : Numbers} → cellNumbers o i db ≡ shown n
-          → (x : Answer Fault (List ℕ)) → payloadBehind o i room db shape n ≡ x → Parts o i room db g
-      by-payload s {n} m (refused fault) q = let d = gathered-faulty s m q in never cc
-      by-payload {shape} s {n} m (shown payload) q =
-          let d = gathered-shown s m q in
+      by-payload : {shape : Shape} → shapeOf file db ≡ shown shape → (x : Answer Fault (List ℕ)) → payloadBehind o i room db shape n ≡ x
+          → Parts o i n room db g
+      by-payload s (refused fault) q = let d = gathered-faulty s q in never cc
+      by-payload {shape} s (shown payload) q =
+          let d = gathered-shown s q in
           let j : record { numbers = n; payload = payload } ≡ g = cc in
-          rw (← j) (record { shape = shape; shaped = s; numbers = m; payload = q })
+          rw (← j) (record { shape = shape; shaped = s; numbers = refl; payload = q })
 
-      by-numbers : {shape : Shape} → shapeOf file db ≡ shown shape → (x : Answer Fault Numbers) → cellNumbers o i db ≡ x
-          → Parts o i room db g
-      by-numbers s (refused fault) m = let d = gathered-cut s m in never cc
-      by-numbers {shape} s (shown n) m =
-          by-payload s m (payloadBehind o i room db shape n) refl
-
-      by-shape : (x : Answer Flaw Shape) → shapeOf file db ≡ x → Parts o i room db g
+      by-shape : (x : Answer Flaw Shape) → shapeOf file db ≡ x → Parts o i n room db g
       by-shape (refused flaw) s = let d = gathered-unshaped s in never cc
-      by-shape (shown shape) s = by-numbers s (cellNumbers o i db) refl
+      by-shape (shown shape) s = by-payload s (payloadBehind o i room db shape n) refl
 
-  -- its payload fits the buffer, and has the size that the cell says
-  gathered-length : {g : Gathered} → gatheredIn o i room db ≡ shown g
-      → (g .numbers .size .value ≤ room) × (length (g .payload) ≡ g .numbers .size .value)
-  gathered-length {g} e =
-      let p = gathered e in
-      payload-length (o .kind) (p .shape) room (g .numbers .size .value) (drop (g .numbers .length) (partIn o i db)) db
-      (shape-shaped db (p .shaped)) (p .payload)
+-- BY ITS NUMBERS
+
+module _ (o : Open) (i room : ℕ) (db : List ℕ) where
+  pub gathered-numbered : {n : Numbers} → numbersIn o i db ≡ shown n → gatheredIn o i room db ≡ gatheredWith o i n room db
+  unfolding gatheredIn
+  gathered-numbered e = rw e
+
+  pub gathered-unnumbered : {refusal : Refusal} → numbersIn o i db ≡ refused refusal → gatheredIn o i room db ≡ refused refusal
+  unfolding gatheredIn
+  gathered-unnumbered e = rw e
+
+  -- they are those of the cell, and its payload has the size that they say and fits the buffer
+  told : {g : Gathered} → gatheredIn o i room db ≡ shown g
+      → (numbersIn o i db ≡ shown (g .numbers)) × (g .numbers .size .value ≤ room) × (length (g .payload) ≡ g .numbers .size .value)
+  told {g} e = by-numbers (numbersIn o i db) refl
+    where
+      by-numbers : (x : Answer Refusal Numbers) → numbersIn o i db ≡ x
+          → (numbersIn o i db ≡ shown (g .numbers)) × (g .numbers .size .value ≤ room) × (length (g .payload) ≡ g .numbers .size .value)
+      by-numbers (refused refusal) m = let d = gathered-unnumbered m in never cc
+      by-numbers (shown n) m =
+          let p = gathered o i n room db (sym (gathered-numbered m) ∙ e) in
+          let l = payload-length (o .kind) (p .shape) room (n .size .value) (drop (n .length) (partIn o i db)) db (shape-shaped db (p .shaped)) (p .payload) in
+          rw (p .numbers) (m, l .0, l .1)
+
+  pub gathered-numbers : {g : Gathered} → gatheredIn o i room db ≡ shown g → numbersIn o i db ≡ shown (g .numbers)
+  gathered-numbers e = told e .0
 
 pub as-long-as-said : AsLongAsSaid
-as-long-as-said o i room db g e = gathered-length o i room db e
+as-long-as-said o i room db g e = let t = told o i room db e in (t .1, t .2)

@@ -7,16 +7,14 @@ use Rattle.reading.specs.declared.Reading.the-variants.{File as file}
 use Rattle.answers.specs.declared.Fault.{Fault}
 use Rattle.answers.specs.declared.Refusal.{Refusal}
 use Rattle.answers.specs.Answer.{Answer, refused, shown, _>>=_}
-use Rattle.kinds.specs.declared.Kind.{Kind}
 use Rattle.cell.specs.declared.Numbers.{Numbers}
 use Rattle.cell.specs.declared.Payload.{Payload}
 use Rattle.cell.specs.declared.Payload.the-variants as pa
-use Rattle.cell.specs.Numbers.{numbersOf}
-use Rattle.place.specs.declared.Shape.{Shape}
 use Rattle.place.specs.Shape.{shapeOf}
 use Rattle.page.specs.declared.Open.{Open}
 use Rattle.page.specs.Open.{ofDatabase}
 use Rattle.cells.specs.Located.{inCell, partIn}
+use Rattle.cells.specs.Numbered.{numbersIn}
 use Rattle.chain.specs.declared.GatherAnswer.{GatherAnswer}
 use Rattle.chain.specs.declared.GatherAnswer.the-variants as ga
 use Rattle.chain.specs.Chain.{payloadOf}
@@ -26,18 +24,17 @@ pub record Gathered : Type 0 where
   pub numbers : Numbers
   pub payload : List ℕ
 
--- the cell of kind k that begins s
-unfoldable pub gatheredOf : Kind → Shape → ℕ → List ℕ → List ℕ → Answer Fault Gathered
-gatheredOf k shape room s db = do
-  n ← numbersOf file k s
-  q ← payloadOf k shape room (n .size .value) (drop (n .length) s) db
+-- cell i of an opened page, by its numbers; its chain lies in pages of the file's shape
+unfoldable pub gatheredWith : Open → ℕ → Numbers → ℕ → List ℕ → Answer Refusal Gathered
+gatheredWith o i n room db = do
+  shape ← ofDatabase (shapeOf file db)
+  q ← inCell (o .page) i (payloadOf (o .kind) shape room (n .size .value) (drop (n .length) (partIn o i db)) db)
   shown (record { numbers = n; payload = q })
 
--- cell i of an opened page, whose chain lies in pages of the file's shape
 unfoldable pub gatheredIn : Open → ℕ → ℕ → List ℕ → Answer Refusal Gathered
 gatheredIn o i room db = do
-  shape ← ofDatabase (shapeOf file db)
-  inCell (o .page) i (gatheredOf (o .kind) shape room (partIn o i db) db)
+  n ← numbersIn o i db
+  gatheredWith o i n room db
 
 -- THE BUFFER
 

@@ -10,12 +10,11 @@ ghost use lib.ListN.{length, take};
 ghost use Rattle.answers.specs.declared.Refusal.the-variants.{InCell};
 ghost use Rattle.chain.specs.declared.GatherAnswer.the-variants.{Refused};
 ghost use Rattle.chain.specs.Chain.{chainOf, payloadOf};
-ghost use Rattle.chain.specs.Gathered.{gatheredIn, heldBy, bufferBy, payloadAnswer, gatherAnswer};
+ghost use Rattle.chain.specs.Gathered.{gatheredWith, heldBy, bufferBy, payloadAnswer, gatherAnswer};
 ghost use Rattle.chain.specs.Copied.{Shaped, whole, content, laidAt};
 use answers::Fault;
 use answers::Refusal;
 use cell::Numbers;
-use cell::NumbersAnswer;
 use cell::Payload;
 use fields::be_u32;
 use kinds::Kind;
@@ -58,11 +57,25 @@ fn is_whole(db: &[u8], shape: Shape, first: u32, links: u64) -> bool
     number == 0
 }
 
-// Lays bytes over those of a buffer from `at` on.
+// Lays bytes over those of a buffer from `at` on, by way of an array: since that lies apart from both, the compiler makes one
+// move of the two copies, and none of the array.
+fn lay_by(bytes: &[u8], mut way: [u8; 65_536], at: usize, buffer: &mut [u8])
+    requires { ⌜ (length (now bytes) ≤ 65536) × (at + length (now bytes) ≤ length (now buffer)) ⌝ }
+    ensures { λ _. ⌜ now (buffer .exit) ≡ laidAt at (now (bytes .entry)) (now (buffer .entry)) ⌝ }
+{
+    let n = bytes::copy(bytes, &mut way);
+    bytes::copy(&way[0..n], &mut buffer[at..]);
+}
+
+// The same of any bytes. No page has more than the array.
 fn lay(bytes: &[u8], at: usize, buffer: &mut [u8])
     requires { ⌜ at + length (now bytes) ≤ length (now buffer) ⌝ }
     ensures { λ _. ⌜ now (buffer .exit) ≡ laidAt at (now (bytes .entry)) (now (buffer .entry)) ⌝ }
 {
+    if bytes.len() <= 65_536 {
+        lay_by(bytes, [0; 65_536], at, buffer);
+        return;
+    }
     bytes::copy(bytes, &mut buffer[at..]);
 }
 
@@ -124,10 +137,16 @@ fn gather(db: &[u8], shape: Shape, kind: Kind, p: u64, s: &[u8], buffer: &mut [u
     Payload::Whole(size)
 }
 
-// Gathers the payload of cell `i` of an opened page in a buffer that is lent, where it spills.
-pub fn gather_in(db: &[u8], opened: Open, i: usize, buffer: &mut [u8]) -> GatherAnswer
-    ensures { λ r. ⌜ (r ≡ gatherAnswer (gatheredIn opened i (length (now (buffer .entry))) (now (db .entry))))
-        × (now (buffer .exit) ≡ bufferBy (gatheredIn opened i (length (now (buffer .entry))) (now (db .entry))) (now (buffer .entry))) ⌝ }
+// Gathers the payload of cell `i` of an opened page, which has these numbers, in a buffer that is lent, where it spills.
+pub fn gather_in(
+    db: &[u8],
+    opened: Open,
+    i: usize,
+    numbers: Numbers,
+    buffer: &mut [u8],
+) -> GatherAnswer
+    ensures { λ r. ⌜ (r ≡ gatherAnswer (gatheredWith opened i numbers (length (now (buffer .entry))) (now (db .entry))))
+        × (now (buffer .exit) ≡ bufferBy (gatheredWith opened i numbers (length (now (buffer .entry))) (now (db .entry))) (now (buffer .entry))) ⌝ }
 {
     let page = opened.page;
     let kind = opened.kind;
@@ -135,13 +154,9 @@ pub fn gather_in(db: &[u8], opened: Open, i: usize, buffer: &mut [u8]) -> Gather
     match shaped {
         ShapeAnswer::Refused(flaw) => GatherAnswer::Refused(Refusal::OfDatabase(flaw)),
         ShapeAnswer::Shown(shape) => {
-            let s = cells::part_in(db, opened, i);
-            let NumbersAnswer::Read(numbers) = cell::numbers_of(s, Reading::File, kind) else {
-                return in_cell(page.number, i, Fault::CellCut);
-            };
             let size: Number = numbers.size;
-            let from = numbers.length;
-            let payload = gather(db, shape, kind, size.value, &s[from..], buffer);
+            let s = parts::behind(cells::part_in(db, opened, i), numbers.length);
+            let payload = gather(db, shape, kind, size.value, s, buffer);
             match payload {
                 Payload::Faulty(fault) => in_cell(page.number, i, fault),
                 Payload::Whole(n) => GatherAnswer::Gathered { numbers, size: n },

@@ -3,3 +3,4 @@ pub mod Manners
 pub mod Checked
 pub mod Places
 pub mod Found
+pub mod Counted

@@ -23,7 +23,7 @@ use Rattle.guarded.proofs.Guard.{guardedBy, leaf-in, site-leaf, leaf-opened, gu
 use Rattle.spilled.specs.Lent.{Spilled, whole, gathered, spilledIn, spills, instead, lentIn, lentOf}
 use Rattle.marked.specs.Marked as marked
 use Rattle.judged.specs.Agreement.{AsWithNone, Judged, GuardedRefuses, EveryOpenRefuses, GuardedAgrees}
-use Rattle.spilled.proofs.Got.{spilled-page, lent-instead, lent-whole, lent-refused, lent-open, lent-unopened}
+use Rattle.spilled.proofs.Got.{spilled-told, lent-instead, lent-whole, lent-refused, lent-open, lent-unopened}
 use Rattle.marked.proofs.Guarded.{marked-instead, marked-open, marked-unopened, lent-guarded}
 
 -- AN OPENED PAGE
@@ -68,7 +68,7 @@ module _ (o : Open) (i room : ℕ) (db : List ℕ) where
     where
       by : (t : Bool) → Judged (o .page) i (pick t (spilledIn o i room db >>= (λ c. shown (gathered c))) (refused refusal))
           (pick t (refused (marked.markedBy i (spilledIn o i room db))) (refused refusal))
-      by true = spilled-judged (spilledIn o i room db) (λ (c : Spilled) (e : spilledIn o i room db ≡ shown c). spilled-page o i room db e)
+      by true = spilled-judged (spilledIn o i room db) (λ (c : Spilled) (e : spilledIn o i room db ≡ shown c). spilled-told o i room db e .page)
       by false = (λ other e. cc, λ f mark e m. never cc, λ l e m. never cc)
 
   pub every-judged : o .kind ≡ LeafTable → Judged (o .page) i (lentIn o i room db) (marked.lentIn o i room db)

@@ -5,3 +5,4 @@ pub mod Kept
 pub mod Spelt
 pub mod Accepted
 pub mod Room
+pub mod Faults

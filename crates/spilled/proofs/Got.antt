@@ -1,7 +1,7 @@
 -- A cell that was found with a buffer lent, taken apart: the located cell on its page, or the record of a gathered payload,
 -- which the buffer then begins with.
 use Prim.Native.Nat.{ℕ}
-use mathlib.Core.Path.{_≡_, refl, _∙_}
+use mathlib.Core.Path.{_≡_, refl, sym, ap, _∙_}
 use mathlib.Core.List.{List, _++_}
 use mathlib.Core.Bool.{Bool, true, false}
 use lib.ListN.{length, drop}
@@ -12,13 +12,16 @@ use Rattle.answers.specs.declared.Fault.{Fault}
 use Rattle.answers.specs.declared.Refusal.{Refusal}
 use Rattle.answers.specs.Answer.{Answer, refused, shown, _>>=_}
 use Rattle.record.specs.Record.{Record, recordOf}
+use Rattle.cell.specs.declared.Numbers.{Numbers}
 use Rattle.cell.proofs.Inside.{Held, record-held}
 use Rattle.place.specs.declared.Page.{Page}
 use Rattle.page.specs.declared.Open.{Open}
 use Rattle.page.specs.Open.{openOf}
 use Rattle.cells.specs.Located.{Located, inCell, locatedIn, locatedOf}
+use Rattle.cells.specs.Numbered.{numbersIn}
 use Rattle.cells.proofs.Laws.{located-open}
 use Rattle.chain.specs.Gathered.{Gathered, gatheredIn, bufferBy}
+use Rattle.chain.proofs.Laws.{gathered-numbers}
 use Rattle.spilled.specs.Lent.{Spilled, whole, gathered, cellWith, recordedIn, spilledIn, spills, instead, bufferAfter, lentIn, bufferIn, lentOf, bufferOn, bufferOf}
 
 -- what is so of a spilled cell: its record, and the buffer that held b
@@ -39,24 +42,54 @@ recorded-held page i g {c} e = go (recordOf file (g .payload)) refl e
         let f : record { page = page; cell = cellWith g r; payload = g .payload } ≡ c = cc in
         rw (← f) (refl, refl, record-held file (g .payload) (cellWith g r) refl q)
 
-recorded-page : (page : Page) (i : ℕ) (g : Gathered) {c : Spilled} → recordedIn page i g ≡ shown c → c .page ≡ page
-recorded-page page i g {c} e = go (recordOf file (g .payload)) e
+took : {c : Spilled} (x : Answer Refusal Spilled) → (x >>= (λ d. shown (gathered d))) ≡ shown (gathered c) → x ≡ shown c
+took (refused refusal) d = never cc
+took (shown d) f = cc
+
+-- what it tells of the cell
+recorded-told : (page : Page) (i : ℕ) (g : Gathered) {c : Spilled} → recordedIn page i g ≡ shown c
+    → (c .page ≡ page) × (c .cell .numbers ≡ g .numbers) × (c .cell .row ≡ g .numbers .key)
+recorded-told page i g {c} e = go (recordOf file (g .payload)) e
   where
     go : (x : Answer Fault Record) → (inCell page i x >>= (λ r. shown (record { page = page; cell = cellWith g r; payload = g .payload }))) ≡ shown c
-        → c .page ≡ page
+        → (c .page ≡ page) × (c .cell .numbers ≡ g .numbers) × (c .cell .row ≡ g .numbers .key)
     go (refused fault) d = never cc
     go (shown r) d =
         let f : record { page = page; cell = cellWith g r; payload = g .payload } ≡ c = cc in
-        rw (← f)
+        rw (← f) (refl, refl, refl)
 
--- it is told of its page
-pub spilled-page : (o : Open) (i room : ℕ) (db : List ℕ) {c : Spilled} → spilledIn o i room db ≡ shown c → c .page ≡ o .page
-unfolding spilledIn
-spilled-page o i room db {c} e = go (gatheredIn o i room db) e
-  where
-    go : (x : Answer Refusal Gathered) → (x >>= recordedIn (o .page) i) ≡ shown c → c .page ≡ o .page
-    go (refused refusal) d = never cc
-    go (shown g) d = recorded-page (o .page) i g d
+module _ (o : Open) (i room : ℕ) (db : List ℕ) where
+  -- it is told of its page, and has the numbers that stand there
+  pub record Told (c : Spilled) : Type 0 where
+    pub page : c .page ≡ o .page
+    pub numbers : numbersIn o i db ≡ shown (c .cell .numbers)
+    pub row : c .cell .row ≡ c .cell .numbers .key
+
+  pub spilled-told : {c : Spilled} → spilledIn o i room db ≡ shown c → Told c
+  unfolding spilledIn
+  spilled-told {c} e = go (gatheredIn o i room db) refl e
+    where
+      go : (x : Answer Refusal Gathered) → gatheredIn o i room db ≡ x → (x >>= recordedIn (o .page) i) ≡ shown c → Told c
+      go (refused refusal) q d = never cc
+      go (shown g) q d =
+          let r = recorded-told (o .page) i g d in
+          record {
+            page = r .0;
+            numbers = gathered-numbers o i room db q ∙ ap shown (sym (r .1));
+            row = r .2 ∙ ap (λ (n : Numbers). n .key) (sym (r .1));
+          }
+
+  pub lent-told : {c : Spilled} → lentIn o i room db ≡ shown (gathered c) → Told c
+  unfolding lentIn
+  lent-told {c} e = go (locatedIn o i db) e
+    where
+      go : (x : Answer Refusal Located) → instead whole (spilledIn o i room db >>= (λ d. shown (gathered d))) x ≡ shown (gathered c) → Told c
+      go (shown l) d = never cc
+      go (refused refusal) d = by (spills refusal) d
+        where
+          by : (t : Bool) → pick t (spilledIn o i room db >>= (λ d. shown (gathered d))) (refused refusal) ≡ shown (gathered c) → Told c
+          by true f = spilled-told (took (spilledIn o i room db) f)
+          by false f = never cc
 
 module _ (o : Open) (i : ℕ) (db b : List ℕ) where
   pub spilled-got : {c : Spilled} → spilledIn o i (length b) db ≡ shown c → Got c (bufferBy (gatheredIn o i (length b) db) b) b
@@ -89,10 +122,6 @@ module _ (o : Open) (i : ℕ) (db b : List ℕ) where
   unfolding lentIn bufferIn
   lent-got {c} e = go (locatedIn o i db) e
     where
-      took : (x : Answer Refusal Spilled) → (x >>= (λ d. shown (gathered d))) ≡ shown (gathered c) → x ≡ shown c
-      took (refused refusal) d = never cc
-      took (shown d) f = cc
-
       go : (x : Answer Refusal Located) → instead whole (spilledIn o i (length b) db >>= (λ d. shown (gathered d))) x ≡ shown (gathered c)
           → Got c (bufferAfter x (gatheredIn o i (length b) db) b) b
       go (shown l) d = never cc

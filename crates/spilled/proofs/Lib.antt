@@ -1,3 +1,4 @@
 pub mod Laws
+pub mod Numbered
 pub mod Got
 pub mod Values

@@ -7,14 +7,16 @@ ghost use mathlib.Core.Path.{_≡_};
 ghost use lib.ListN.{length};
 ghost use Rattle.values.specs.Part.{partOf};
 ghost use Rattle.place.specs.Place.{filePage};
+ghost use Rattle.cells.specs.Located.{locatedIn};
 ghost use Rattle.spilled.specs.Lent.{spills, spillsAs, spilledIn, gatheredBy, lentIn, bufferIn, lentOf, bufferOf, lentBy};
 ghost use Rattle.spilled.specs.Values.{from, valueOf, bytesIn};
-ghost use Rattle.spilled.specs.Steps.{recordedBy, valueOver};
-ghost use Rattle.chain.specs.Gathered.{gatheredIn, bufferBy};
+ghost use Rattle.spilled.specs.Steps.{over, onPage, spilledWith, recordedBy, valueOver};
+ghost use Rattle.chain.specs.Gathered.{gatheredWith, gatheredIn, bufferBy};
 use answers::Fault;
 use answers::Refusal;
 use cell::Cell;
 use cell::Numbers;
+use cells::NumberedAnswer;
 use chain::GatherAnswer;
 use columns::Cursor;
 use page::Open;
@@ -118,13 +120,13 @@ fn recorded(payload: &[u8], page: Page, i: usize, numbers: Numbers) -> LentAnswe
     }
 }
 
-// Cell `i` of an opened page, its payload gathered in the buffer.
-pub fn spilled_in(db: &[u8], opened: Open, i: usize, buffer: &mut [u8]) -> LentAnswer
-    ensures { λ r. ⌜ (r ≡ gatheredBy (spilledIn opened i (length (now (buffer .entry))) (now (db .entry))))
-        × (now (buffer .exit) ≡ bufferBy (gatheredIn opened i (length (now (buffer .entry))) (now (db .entry))) (now (buffer .entry))) ⌝ }
+// Cell `i` of an opened page, which has these numbers, its payload gathered in the buffer.
+fn spilled_by(db: &[u8], opened: Open, i: usize, numbers: Numbers, buffer: &mut [u8]) -> LentAnswer
+    ensures { λ r. ⌜ (r ≡ gatheredBy (spilledWith opened i numbers (length (now (buffer .entry))) (now (db .entry))))
+        × (now (buffer .exit) ≡ bufferBy (gatheredWith opened i numbers (length (now (buffer .entry))) (now (db .entry))) (now (buffer .entry))) ⌝ }
 {
     let page = opened.page;
-    let answer = chain::gather_in(db, opened, i, buffer);
+    let answer = chain::gather_in(db, opened, i, numbers, buffer);
     match answer {
         GatherAnswer::Refused(refusal) => LentAnswer::Refused(refusal),
         GatherAnswer::Gathered { numbers, size } => {
@@ -133,22 +135,66 @@ pub fn spilled_in(db: &[u8], opened: Open, i: usize, buffer: &mut [u8]) -> LentA
     }
 }
 
-// Cell `i` of an opened page: on the page, or in the buffer where its payload spills.
-pub fn found_in(db: &[u8], opened: Open, i: usize, buffer: &mut [u8]) -> LentAnswer
-    ensures { λ r. ⌜ (r ≡ lentBy (lentIn opened i (length (now (buffer .entry))) (now (db .entry))))
-        × (now (buffer .exit) ≡ bufferIn opened i (now (db .entry)) (now (buffer .entry))) ⌝ }
+// Cell `i` of an opened page, its payload gathered in the buffer.
+pub fn spilled_in(db: &[u8], opened: Open, i: usize, buffer: &mut [u8]) -> LentAnswer
+    ensures { λ r. ⌜ (r ≡ gatheredBy (spilledIn opened i (length (now (buffer .entry))) (now (db .entry))))
+        × (now (buffer .exit) ≡ bufferBy (gatheredIn opened i (length (now (buffer .entry))) (now (db .entry))) (now (buffer .entry))) ⌝ }
+{
+    let answer = cells::numbers_in(db, opened, i);
+    match answer {
+        NumberedAnswer::Refused(refusal) => LentAnswer::Refused(refusal),
+        NumberedAnswer::Shown(numbers) => spilled_by(db, opened, i, numbers, buffer),
+    }
+}
+
+// Whether a payload of `p` bytes spills, in a cell of an opened page.
+fn is_over(opened: Open, p: u64) -> bool
+    ensures { λ r. ⌜ r ≡ over opened p ⌝ }
+{
+    let kind = opened.kind;
+    if !kind.has_size() {
+        return false;
+    }
+    let page = opened.page;
+    let reading = page.reading;
+    match reading {
+        Reading::Old => {
+            return false;
+        }
+        Reading::File => {
+            return kind.most_whole(opened.end) < p;
+        }
+    }
+}
+
+// Cell `i` of an opened page, on the page.
+fn found_on(db: &[u8], opened: Open, i: usize) -> LentAnswer
+    ensures { λ r. ⌜ r ≡ onPage (locatedIn opened i (now (db .entry))) ⌝ }
 {
     let answer = row::found_in(db, opened, i);
     match answer {
+        FoundAnswer::Refused(refusal) => LentAnswer::Refused(refusal),
         FoundAnswer::Shown(found) => LentAnswer::Shown {
             found,
             source: Source::Database,
         },
-        FoundAnswer::Refused(refusal) => {
-            if spills_by(refusal) {
-                return spilled_in(db, opened, i, buffer);
+    }
+}
+
+// Cell `i` of an opened page: on the page, or in the buffer where its payload spills, as its numbers say.
+pub fn found_in(db: &[u8], opened: Open, i: usize, buffer: &mut [u8]) -> LentAnswer
+    ensures { λ r. ⌜ (r ≡ lentBy (lentIn opened i (length (now (buffer .entry))) (now (db .entry))))
+        × (now (buffer .exit) ≡ bufferIn opened i (now (db .entry)) (now (buffer .entry))) ⌝ }
+{
+    let answer = cells::numbers_in(db, opened, i);
+    match answer {
+        NumberedAnswer::Refused(refusal) => LentAnswer::Refused(refusal),
+        NumberedAnswer::Shown(numbers) => {
+            let size: Number = numbers.size;
+            if is_over(opened, size.value) {
+                return spilled_by(db, opened, i, numbers, buffer);
             }
-            LentAnswer::Refused(refusal)
+            found_on(db, opened, i)
         }
     }
 }

@@ -23,16 +23,19 @@ cell-by-requires c κs = search needs
 enum-known-shown : tie.Need-enum-known-shown
 enum-known-shown c = search needs
 
+in-cell-requires : tie.Need-in-cell-requires
+in-cell-requires c κs = search needs
+
 enum-known-shown-2 : tie.Need-enum-known-shown-2
 enum-known-shown-2 c = search needs
 
 returns-2 : tie.Need-returns-2
 returns-2 c =
-    let k = c .before .before .before in
+    let k = c .before .before .before .before in
     let a = k .before .before .before .before .before .before .args in
     let page = now (a .page) in
-    let e = sym (rw (k .before .pointer-at .ensures) at (k .cell-by .ensures)) ∙ c .before .shown .given .1 in
-    rw (lt-ltb _ _ (k .before .before .if1 .left), located-by (a .opened) (a .i) (pointerAt (a .opened) (a .i) page) (cellAt (a .opened) (pointerAt (a .opened) (a .i) page) page), e)
+    let e = sym (rw (k .before .pointer-at .ensures) at (k .cell-by .ensures)) ∙ c .before .before .shown .given .1 in
+    rw (lt-ltb _ _ (k .before .before .if1 .left), located-by (a .opened) (a .i) (pointerAt (a .opened) (a .i) page) (cellAt (a .opened) (pointerAt (a .opened) (a .i) page) page), e, c .in-cell .ensures)
 
 returns-3 : tie.Need-returns-3
 returns-3 c =
@@ -51,6 +54,7 @@ located-in-spec =
     pointer-at-requires
     cell-by-requires
     enum-known-shown
+    in-cell-requires
     enum-known-shown-2
     returns-2
     returns-3)

@@ -1,19 +1,17 @@
--- The payload that was gathered is what the buffer begins with.
-use mathlib.Core.Path.{sym, ap, _∙_}
-use Prim.Native.Nat.{ℕ}
-use mathlib.Core.List.{List}
+-- Where its numbers are refused, nothing is gathered.
+use mathlib.Core.Path.{refl, sym, _∙_}
 use denote.Ref.{now}
-use lib.ListN.{length, take, drop}
-use Rattle.chain.specs.Gathered.{gatheredIn}
+use lib.ListN.{length}
+use Rattle.cells.specs.Numbered.{numbersIn}
+use Rattle.cells.proofs.Numbered.{numbers-answered, numbers-unanswered}
+use Rattle.chain.proofs.Laws.{gathered-numbered, gathered-unnumbered}
 use Rattle.spilled.specs.Lent.{spilledIn}
-use Rattle.spilled.specs.Steps.{recordedBy}
-use Rattle.spilled.proofs.Laws.{gathered-refused, gathered-recorded}
 use borrow.Author.Needs.{needs}
 use Rattle.spilled.proofs.spilled_in.Statement.{statement}
 use Rattle.spilled.proofs.spilled_in.Tie as tie
 
-gather-in-requires : tie.Need-gather-in-requires
-gather-in-requires c κs = search needs
+numbers-in-requires : tie.Need-numbers-in-requires
+numbers-in-requires c κs = search needs
 
 enum-known-answer : tie.Need-enum-known-answer
 enum-known-answer c = search needs
@@ -21,48 +19,35 @@ enum-known-answer c = search needs
 enum-known-answer-2 : tie.Need-enum-known-answer-2
 enum-known-answer-2 c = search needs
 
-part-requires : tie.Need-part-requires
-part-requires c κs = search needs
-
-recorded-requires : tie.Need-recorded-requires
-recorded-requires c κs = search needs
-
-same-length : tie.Need-same-length
-same-length c = search needs
+spilled-by-requires : tie.Need-spilled-by-requires
+spilled-by-requires c κs = search needs
 
 returns : tie.Need-returns
 unfolding spilledIn
 returns c =
-    let k = c .before .before .before .before .before in
-    let a = k .before .before .before .before .before .args in
-    let x = gatheredIn (a .opened) (a .i) (length (now (a .buffer))) (now (a .db)) in
-    (sym (gathered-refused (a .opened .page) (a .i) x (sym (k .gather-in .ensures .0) ∙ c .before .answer .given .1)), k .gather-in .ensures .1)
+    let a = c .before .before .before .before .before .before .args in
+    let n = numbers-unanswered (numbersIn (a .opened) (a .i) (now (a .db))) (sym (c .before .before .before .numbers-in .ensures) ∙ c .before .answer .given .1) in
+    rw (gathered-unnumbered (a .opened) (a .i) (length (now (a .buffer))) (now (a .db)) n) (refl, refl)
 
-same-length-2 : tie.Need-same-length-2
-same-length-2 c = search needs
+same-length : tie.Need-same-length
+same-length c = search needs
 
 returns-2 : tie.Need-returns-2
 unfolding spilledIn
 returns-2 c =
-    let m = c .before .before .before .before in
-    let k = m .before .before .before .before in
-    let a = k .before .before .before .before .before .args in
-    let b = now (a .buffer) in
-    let x = gatheredIn (a .opened) (a .i) (length b) (now (a .db)) in
-    let e = gathered-recorded (a .opened .page) (a .i) b x (sym (k .gather-in .ensures .0) ∙ m .answer2 .given .1) in
-    let q = c .before .part .ensures ∙ ap (λ (z : List ℕ). take (m .answer2 .given .0 .1 .0) (drop 0 z)) (k .gather-in .ensures .1) in
-    (c .recorded .ensures ∙ ap (recordedBy (a .opened .page) (a .i) (m .answer2 .given .0 .0)) q ∙ sym e, k .gather-in .ensures .1)
+    let k = c .before .before .before .before .before .before .before in
+    let a = k .before .before .before .args in
+    let n = numbers-answered (numbersIn (a .opened) (a .i) (now (a .db))) (sym (k .numbers-in .ensures) ∙ c .before .before .before .before .before .answer2 .given .1) in
+    rw (gathered-numbered (a .opened) (a .i) (length (now (a .buffer))) (now (a .db)) n) (c .before .before .spilled-by .ensures)
 
 pub spilled-in-spec : {M : Type 1} → statement M
 spilled-in-spec =
     tie.close
     (tie.spec
-    gather-in-requires
+    numbers-in-requires
     enum-known-answer
     enum-known-answer-2
-    part-requires
-    recorded-requires
-    same-length
+    spilled-by-requires
     returns
-    same-length-2
+    same-length
     returns-2)
