@@ -1,7 +1,10 @@
 /* ours old|file|guarded|lent FILE PASSES: all values of all rows of all table leaves, PASSES times, by the calls for C.
+ * ours walk|list FILE PASSES: the places and numbers of all rows of the table, whose root is page 2.
  *
- * `lent` is the file reading with a gather buffer lent, so that rows that spill are shown too. It prints what the last pass
- * was shown; with no pass, it does everything but the work that is counted. */
+ * `lent` is the file reading with a gather buffer lent, so that rows that spill are shown too; `walk` counts the rows and then
+ * lists them, and `list` lists them into a list that is known to be long enough. It prints what the last pass was shown; with
+ * no pass, it does everything but the work that is counted. */
+#include <stdbool.h>
 #include <stdlib.h>
 #include <string.h>
 
@@ -10,7 +13,7 @@
 
 /* A row comes by one call with all of its columns, up to so many; more places cost nothing where they are not filled, and
  * neither does more room. LENT is no reading's number. */
-enum { TABLE_LEAF = 13, PLACES = 64, ROOM = 65536, LENT = 3 };
+enum { TABLE_LEAF = 13, PLACES = 64, ROOM = 65536, LENT = 3, ROOT = 2, ROW = sizeof(shorgavel_place) / sizeof(int64_t) };
 
 typedef uint8_t reading;
 
@@ -28,7 +31,7 @@ static reading named(const char *name) {
     if (strcmp(name, "old") == 0) return SHORGAVEL_OLD;
     if (strcmp(name, "file") == 0) return SHORGAVEL_FILE;
     if (strcmp(name, "lent") == 0) return LENT;
-    if (strcmp(name, "guarded") != 0) fail("the readings are old, file, guarded and lent");
+    if (strcmp(name, "guarded") != 0) fail("the readings are old, file, guarded and lent, the walks walk and list");
     return SHORGAVEL_GUARDED;
 }
 
@@ -110,6 +113,29 @@ static shown pass_lent(const uint8_t *db, size_t length, uint32_t pages) {
     return s;
 }
 
+/* Only the row numbers are folded, since SQLite tells no places. */
+static shown pass_list(const uint8_t *db, size_t length, int64_t *list, size_t words) {
+    shown s = {0, 0, 0, 0};
+    shorgavel_rows_answer listed = shorgavel_table_rows(db, length, ROOT, list, words);
+    for (size_t i = 0; i < listed.count; i++) show_listed(&s, list[ROW * i + 2]);
+    return s;
+}
+
+static shown walk(const char *how, const uint8_t *db, size_t length, int passes) {
+    bool counts = strcmp(how, "walk") == 0;
+    size_t words = ROW * shorgavel_table_count(db, length, ROOT).count;
+    int64_t *list = malloc((words + 1) * sizeof *list);
+    if (!list) fail("there is no memory");
+    memset(list, 0, (words + 1) * sizeof *list);
+    shown s = {0, 0, 0, 0};
+    for (; passes > 0; passes--) {
+        if (counts) words = ROW * shorgavel_table_count(db, length, ROOT).count;
+        s = pass_list(db, length, list, words);
+    }
+    free(list);
+    return s;
+}
+
 static shown pass_of(reading r, const uint8_t *db, size_t length, uint32_t pages) {
     switch (r) {
     case SHORGAVEL_OLD: return pass(SHORGAVEL_OLD, db, length, pages);
@@ -120,10 +146,15 @@ static shown pass_of(reading r, const uint8_t *db, size_t length, uint32_t pages
 }
 
 int main(int count, char **words) {
-    if (count != 4) fail("the words are a reading, a file and a number of passes");
-    reading r = named(words[1]);
+    if (count != 4) fail("the words are a reading or a walk, a file and a number of passes");
     size_t length;
     uint8_t *db = load(words[2], &length);
+    if (strcmp(words[1], "walk") == 0 || strcmp(words[1], "list") == 0) {
+        print_shown(walk(words[1], db, length, atoi(words[3])));
+        free(db);
+        return 0;
+    }
+    reading r = named(words[1]);
     shorgavel_pages_answer pages = shorgavel_pages(db, length, r == LENT ? SHORGAVEL_FILE : r);
     if (pages.refused.number != 0) fail("the header is refused");
     shown s = {0, 0, 0, 0};

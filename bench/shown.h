@@ -1,6 +1,7 @@
-/* What a reader was shown of a database, folded into four numbers, in whatever order its rows come.
+/* What a reader was shown of a database, folded into four numbers, in whatever order its rows come; but for a walk, whose row
+ * numbers are folded in their order.
  *
- * bench/shown.rs does the same. */
+ * bench/shown.rs does the same, but for walks. */
 #ifndef SHOWN_H
 #define SHOWN_H
 
@@ -18,6 +19,11 @@ typedef struct {
 static inline void show_row(shown *s, int64_t number) {
     s->rows++;
     s->sum += (uint64_t)number;
+}
+
+static inline void show_listed(shown *s, int64_t number) {
+    s->rows++;
+    s->sum = 3 * s->sum + (uint64_t)number;
 }
 
 static inline void show_integer(shown *s, int64_t number) { s->sum += (uint64_t)number; }

@@ -1,4 +1,4 @@
-"""tables.py FOLDER: writes the databases that bin/bench reads.
+"""tables.py FOLDER [walk]: writes the databases that bin/bench reads; with the word, also the one of a million rows.
 
 Each has one table, named gauge, at page size 4,096. Every value follows from the number of its row.
 
@@ -12,6 +12,7 @@ import sys
 
 GROWTH = (1_000, 5_000, 20_000, 50_000, 100_000)
 NOTE = 6_000
+WALK = 1_000_000
 STATES = ("idle", "lift", "drive", "charge")
 WIDE = 60
 
@@ -73,6 +74,8 @@ def main():
     write(folder, "tiny", 20_000, tiny)
     write(folder, "text", 2_000, text)
     write(folder, "notes", 2_000, notes)
+    if "walk" in sys.argv[2:]:
+        write(folder, f"gauge-{WALK}", WALK, gauge)
 
 
 if __name__ == "__main__":

@@ -19,8 +19,9 @@
 extern "C" {
 #endif
 
-/* Why nothing is shown; number 0: nothing is refused. The cell is told for 12 to 18, 21, 23 and 24, the column for 15 and 16,
- * and for 21 the mark, for which old and file need not agree.
+/* Why nothing is shown; number 0: nothing is refused. The page is told for all but 1 to 7 and 22, counted as the call counts
+ * it, the cell for 12 to 18, 21, 23, 24 and 27, the column for 15 and 16, and for 21 the mark, for which old and file need not
+ * agree. 25 to 28 are of a walk through a table.
  *
  *  1  the 16 opening bytes of a database are not there
  *  2  there are fewer than 100 bytes
@@ -46,6 +47,10 @@ extern "C" {
  * 22  there are over 1,073,741,824 bytes
  * 23  the overflow chain leaves the file, ends early or goes on
  * 24  the gather buffer is shorter than the payload
+ * 25  the page is of an index
+ * 26  the page is over 20 pages deep
+ * 27  the row number or key is out of order
+ * 28  one more page is due than the file has
  *
  * The marks, of which the lowest is told:
  *
@@ -58,6 +63,7 @@ extern "C" {
 typedef struct {
     uint8_t number;
     uint8_t mark;
+    uint32_t page;
     size_t cell;
     size_t column;
 } shorgavel_refused;
@@ -314,6 +320,31 @@ shorgavel_lent_value shorgavel_guarded_value_lent(const uint8_t *db, size_t leng
  * shorgavel_file_values from the cursor on, with the buffer and its room in place of the database and its length. */
 shorgavel_lent_row shorgavel_row_lent(const uint8_t *db, size_t length, shorgavel_opened page, size_t cell,
                                       shorgavel_value *table, size_t words, uint8_t *buffer, size_t room);
+
+/* ALL ROWS OF A TABLE: a walk of the file reading from the table's root page, which counts from 1, along its tree. It looks at row
+ * numbers, keys and pages alone, so it lists also rows that a reading refuses, and rows whose payload spills. A tree that is not
+ * sound is refused as a whole, with the page and, for 12, 13 and 27, the cell where the walk stopped. */
+
+/* A row of a table: its page, its cell there and its row number. */
+typedef struct {
+    int64_t page;
+    int64_t cell;
+    int64_t row;
+} shorgavel_place;
+
+/* How many rows a table has; 0 where it is refused. */
+typedef struct {
+    shorgavel_refused refused;
+    size_t count;
+} shorgavel_rows_answer;
+
+/* How many rows the table has. */
+shorgavel_rows_answer shorgavel_table_count(const uint8_t *db, size_t length, uint32_t root);
+
+/* The same, and the rows in the list, in the rising order of their numbers, three words each: a shorgavel_place. The list has room
+ * for so many words; one that is too short for all rows is refused (19), after all else. On a refusal the list is left as it was,
+ * and so are its words behind the last row. The pointer is not null, also where there is no room. */
+shorgavel_rows_answer shorgavel_table_rows(const uint8_t *db, size_t length, uint32_t root, int64_t *list, size_t words);
 
 #ifdef __cplusplus
 }

@@ -35,7 +35,7 @@ static void map(const char *name) {
 /* LINES */
 
 static void print_refused(shorgavel_refused r) {
-    printf(" refused %d %zu %zu %d\n", r.number, r.cell, r.column, r.mark);
+    printf(" refused %d %u %zu %zu %d\n", r.number, (unsigned)r.page, r.cell, r.column, r.mark);
 }
 
 static void print_hex(const char *mark, size_t at, size_t count) {

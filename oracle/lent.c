@@ -39,6 +39,7 @@ static void put_word(uint64_t word) { put(&word, sizeof word); }
 static void put_refused(shorgavel_refused r) {
     put_word(r.number);
     put_word(r.mark);
+    put_word(r.page);
     put_word(r.cell);
     put_word(r.column);
 }
@@ -91,7 +92,7 @@ static bool kept_behind(const shorgavel_value *table, size_t count, size_t place
 /* THE CALLS */
 
 static bool same_refused(shorgavel_refused a, shorgavel_refused b) {
-    return a.number == b.number && a.mark == b.mark && a.cell == b.cell && a.column == b.column;
+    return a.number == b.number && a.mark == b.mark && a.page == b.page && a.cell == b.cell && a.column == b.column;
 }
 
 static bool same_row(const shorgavel_row *a, const shorgavel_row *b) {

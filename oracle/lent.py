@@ -19,7 +19,7 @@ OLD, FILE, GUARDED = 0, 1, 2
 
 Asked = namedtuple("Asked", "reading page cell column room places fill")
 Value = namedtuple("Value", "kind width integer bits at len")
-# A refusal is number, mark, cell and column. `plain` has those of the calls lent no buffer: cell, value and row. The flags
+# A refusal is number, mark, page, cell and column. `plain` has those of the calls lent no buffer: cell, value and row. The flags
 # say whether the value call left the same buffer, whether the row is what shorgavel_row_in says, and whether the table
 # behind the values and the bytes behind the buffer are as they were.
 Answer = namedtuple(
@@ -27,7 +27,7 @@ Answer = namedtuple(
     "opening refused number columns count along source column column_value column_source same_buffer"
     " plain as_row_in table_kept behind_kept buffer values",
 )
-WORDS = struct.Struct("<4Q 4QqQQ4QQ 4QQQqQQQQQ 12Q QQQ Q")
+WORDS = struct.Struct("<5Q 5QqQQ4QQ 5QQQqQQQQQ 15Q QQQ Q")
 VALUE = struct.Struct("<QQqQQQ")
 
 
@@ -85,21 +85,21 @@ def answer(source, asked):
     (columns,) = struct.unpack("<Q", taken(source, 8))
     values = [Value(*one) for one in VALUE.iter_unpack(taken(source, columns * VALUE.size))]
     return Answer(
-        opening=words[0:4],
-        refused=words[4:8],
-        number=words[8],
-        columns=words[9],
-        count=words[10],
-        along=words[11:15],
-        source=words[15],
-        column=words[16:20],
-        column_value=Value(*words[20:26]),
-        column_source=words[26],
-        same_buffer=words[27],
-        plain=(words[28:32], words[32:36], words[36:40]),
-        as_row_in=words[40],
-        table_kept=words[41],
-        behind_kept=words[42],
+        opening=words[0:5],
+        refused=words[5:10],
+        number=words[10],
+        columns=words[11],
+        count=words[12],
+        along=words[13:17],
+        source=words[17],
+        column=words[18:23],
+        column_value=Value(*words[23:29]),
+        column_source=words[29],
+        same_buffer=words[30],
+        plain=(words[31:36], words[36:41], words[41:46]),
+        as_row_in=words[46],
+        table_kept=words[47],
+        behind_kept=words[48],
         buffer=buffer + bytes([asked.fill]) * (asked.room - len(buffer)),
         values=values,
     )

@@ -56,6 +56,17 @@ def outside(rust, ours, ways):
     return any((numbers.split(" ")[0], way) not in ways for numbers, way in pairs)
 
 
+def misplaced(ours):
+    """Whether a refusal of ours tells another page than its line, or of a cell alone another cell."""
+    for line in ours:
+        words = line.split()
+        if words[0] in ("page", "alone") and "refused" in words:
+            at = words.index("refused")
+            if words[at + 2 : 2 * at + 1] != words[1:at]:
+                return True
+    return False
+
+
 class Sides:
     """The commands of both sides."""
 
@@ -72,7 +83,7 @@ class Sides:
 
     def differ(self, rust, ours):
         """Whether both sides' lines of one database differ."""
-        return without_reasons(rust) != without_reasons(ours) or outside(rust, ours, self.ways)
+        return without_reasons(rust) != without_reasons(ours) or outside(rust, ours, self.ways) or misplaced(ours)
 
     def differing(self, databases):
         """For each database whether both sides differ on it."""

@@ -12,7 +12,7 @@ import ours
 import shell
 import tables
 
-SPILLS = "18"
+SPILLS = 18
 MOST_TOLD = 20
 
 
@@ -39,14 +39,16 @@ class Comparison:
         rows = table.rows()
         for (page, cell), words in sorted(cells.items()):
             if page in table.leaves:
-                self.cell(table, rows, f"page {page}, cell {cell}", (page, cell) in table.spilled, words)
+                self.cell(table, rows, page, cell, words)
         # What is left was shown by no cell. Spilled rows are, as the refusal does not say their numbers.
         spilled = len(table.spilled)
         if len(rows) != spilled:
             self.differ(table, "the whole", f"{len(rows)} rows of SQLite without a cell, {spilled} that spill")
 
-    def cell(self, table, rows, place, spills, words):
-        if (words[:2] == ["refused", SPILLS]) != spills:
+    def cell(self, table, rows, page, cell, words):
+        place = f"page {page}, cell {cell}"
+        spills = (page, cell) in table.spilled
+        if (words == f"refused {SPILLS} {page} {cell} 0 0".split()) != spills:
             said = "spills" if spills else "does not spill"
             self.differ(table, place, f"SQLite: it {said}, ours {' '.join(words)[:200]}")
         elif spills:

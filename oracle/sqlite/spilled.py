@@ -99,7 +99,7 @@ class Comparison:
         theirs = self.shown(place, tree, rows, file, words)
         if theirs is None:
             return
-        self.column(place, *told[0])
+        self.column(place, cell, *told[0])
         old = told[-1][1]
         is_old = old.opening[0] == 0 and old.as_row_in and not old.source and is_as_filled(*told[-1])
         self.hold(place, "old takes no buffer", is_old, told[-1][0])
@@ -136,16 +136,16 @@ class Comparison:
         rows[theirs] -= 1
         return theirs if self.hold(place, "SQLite has such a row", is_there, words) else None
 
-    def column(self, place, asked, answer):
+    def column(self, place, cell, asked, answer):
         """The value call says what the row says."""
         if asked.column < answer.columns:
             value = answer.values[asked.column]
-            is_same = answer.column == (0, 0, 0, 0) and answer.column_value == value
+            is_same = answer.column == (0, 0, 0, 0, 0) and answer.column_value == value
             is_there = answer.column_source == answer.source
             told = (value, answer.column, answer.column_value, answer.column_source)
             self.hold(place, f"column {asked.column} by itself", is_same and is_there, told)
         else:
-            self.hold(place, "there is no such column", answer.column == (20, 0, 0, 0), answer.column)
+            self.hold(place, "there is no such column", answer.column == (20, 0, cell.page, 0, 0), answer.column)
 
     def whole(self, place, told):
         """A whole payload is shown as by the call that is lent no buffer, in each reading."""
@@ -161,24 +161,24 @@ class Comparison:
         self.hold(place, "the buffer behind it is kept", kept == bytes([asked.fill]) * len(kept), asked)
         self.hold(place, "the row is the same", (answer.number, answer.values) == (file.number, file.values), asked)
         self.hold(place, "so many are in the table", answer.count == min(asked.places, file.columns), asked)
-        self.column(place, asked, answer)
-        spills = (18, 0, cell.number, 0)
+        self.column(place, cell, asked, answer)
+        spills = (18, 0, cell.page, cell.number, 0)
         self.hold(place, "it is 18 with no buffer", answer.plain == (spills, spills, spills), answer.plain)
 
     def shorter(self, place, cell, asked, answer):
-        refused = (24, 0, cell.number, 0)
+        refused = (24, 0, cell.page, cell.number, 0)
         is_so = answer.refused == answer.column == refused and is_as_filled(asked, answer)
         self.hold(place, "a byte too few is 24, and the buffer kept", is_so, (answer.refused, answer.column))
 
     def guarded(self, place, tree, cell, file, theirs, asked, answer):
         if cell.kind != model.LEAF_TABLE:
-            refused = (10, 0, 0, 0)
+            refused = (10, 0, cell.page, 0, 0)
             is_so = answer.opening == answer.column == refused and is_as_filled(asked, answer)
             self.hold(place, "guarded shows table leaves alone", is_so, answer.opening)
             return
         mark = lowest_mark(tree, file.number, theirs)
         self.counts[f"mark {mark}"] += 1
-        refused = (21, mark, cell.number, 0)
+        refused = (21, mark, cell.page, cell.number, 0)
         told = (answer.refused, answer.column)
         self.hold(place, f"guarded refuses by mark {mark}", told == (refused, refused), told)
         held = file.buffer + bytes([asked.fill]) * (asked.room - cell.size)

@@ -8,6 +8,7 @@
 //! in the header: the test below holds their sizes, and `tests/gauge.rs` every field, to what C has. Answers are plain
 //! numbers, and every pattern of bits is one.
 
+use crate::Place;
 use std::mem::size_of;
 
 /// Why nothing is shown; number 0: nothing is refused.
@@ -16,6 +17,7 @@ use std::mem::size_of;
 pub struct Refused {
     pub number: u8,
     pub mark: u8,
+    pub page: u32,
     pub cell: usize,
     pub column: usize,
 }
@@ -158,10 +160,7 @@ pub struct Shown {
     pub value: Value,
 }
 
-/// The source of a row or a value whose places count in the database.
-pub const DATABASE: u8 = 0;
-
-/// The source of one whose places count in the gather buffer.
+/// The source of a row or a value whose places count in the gather buffer; those of any other count in the database.
 pub const BUFFER: u8 = 1;
 
 /// A row, and the bytes that the places of its values count in.
@@ -178,6 +177,16 @@ pub struct LentValue {
     pub value: Value,
     pub source: u8,
 }
+
+/// How many rows a table has; 0 where it is refused.
+#[repr(C)]
+pub struct RowsAnswer {
+    pub refused: Refused,
+    pub count: usize,
+}
+
+/// The size of a list of places is told in words too: so many a place.
+const PLACE_WORDS: usize = size_of::<Place>() / size_of::<i64>();
 
 extern "C" {
     fn shorgavel_header(db: *const u8, length: usize, reading: u8) -> HeaderAnswer;
@@ -231,6 +240,8 @@ extern "C" {
         buffer: *mut u8,
         room: usize,
     ) -> LentRow;
+    fn shorgavel_table_count(db: *const u8, length: usize, root: u32) -> RowsAnswer;
+    fn shorgavel_table_rows(db: *const u8, length: usize, root: u32, list: *mut Place, words: usize) -> RowsAnswer;
 }
 
 /// The header's fields, or the first check that fails.
@@ -340,6 +351,27 @@ pub fn guarded_value_lent(db: &[u8], page: u32, cell: usize, column: usize, buff
     unsafe { shorgavel_guarded_value_lent(db.as_ptr(), db.len(), page, cell, column, bytes, room) }
 }
 
+/// How many rows the table at a root page has.
+pub fn table_count(db: &[u8], root: u32) -> RowsAnswer {
+    // SAFETY: pointer and length are of one slice; any number names a page or is refused.
+    unsafe { shorgavel_table_count(db.as_ptr(), db.len(), root) }
+}
+
+/// The same, and the rows in the list, in place of those that were there, if they fit without its growing.
+pub fn table_rows(db: &[u8], root: u32, list: &mut Vec<Place>) -> RowsAnswer {
+    let words = list.capacity() * PLACE_WORDS;
+    list.clear();
+    // SAFETY: pointer and length are of one slice. The list has room for as many places as its capacity says, and its
+    // pointer is not null, also where there is no room. A place is three words and lies as words must, as the test below
+    // holds; so no more is written than is the list's, and it is lent alone.
+    let answer = unsafe { shorgavel_table_rows(db.as_ptr(), db.len(), root, list.as_mut_ptr(), words) };
+    debug_assert!(answer.count <= list.capacity());
+    // SAFETY: it is proved that so many rows are written, from the first place on, where nothing is refused, and that the
+    // count is 0 on a refusal, also on that of a list that is too short. Any three words are a place.
+    unsafe { list.set_len(answer.count) };
+    answer
+}
+
 #[cfg(test)]
 mod tests {
     use super::*;
@@ -363,6 +395,8 @@ mod tests {
         assert_eq!(size_of::<Shown>(), 64);
         assert_eq!(size_of::<LentRow>(), 88);
         assert_eq!(size_of::<LentValue>(), 72);
+        assert_eq!(size_of::<Place>(), 24);
+        assert_eq!(size_of::<RowsAnswer>(), 32);
     }
 
     /// A table of values is a table of words too: five a place, and none stands askew.
@@ -372,6 +406,13 @@ mod tests {
         assert_eq!((WORDS, align_of::<Value>(), align_of::<i64>()), (5, 8, 8));
     }
 
+    /// And a list of places: three a place.
+    #[test]
+    fn a_place_of_a_list_is_three_words() {
+        assert_eq!(size_of::<Place>(), PLACE_WORDS * size_of::<i64>());
+        assert_eq!((PLACE_WORDS, align_of::<Place>()), (3, 8));
+    }
+
     /// An empty slice's pointer dangles: the calls answer without reading behind it.
     #[test]
     fn no_bytes_are_answered() {
@@ -379,6 +420,8 @@ mod tests {
         assert_eq!(pages(&[], 0).refused.number, 1);
         assert_eq!(open(&[], 0, 0).refused.number, 1);
         assert_eq!(entries(&[], 1, 1, &mut []).refused.number, 1);
+        assert_eq!(table_count(&[], 1).refused.number, 1);
+        assert_eq!(table_rows(&[], 1, &mut Vec::new()).refused.number, 1);
     }
 
     /// A page of 512 bytes and one row, number 3, of a 5 (type 1) and a 7 (type 2).
@@ -434,6 +477,24 @@ mod tests {
         let mut table = table_of(3);
         assert_eq!(row_lent(&bytes, &page, 1, &mut table, &mut []).row.refused.number, 20);
         assert_eq!((table.len(), table.capacity()), (0, 3));
+    }
+
+    /// Page 1 is a leaf of one row, number 3. A list that is long enough has it; a shorter one is left empty.
+    #[test]
+    fn a_list_has_all_rows_or_none() {
+        let bytes = one_row();
+        assert_eq!((table_count(&bytes, 1).refused.number, table_count(&bytes, 1).count), (0, 1));
+        for places in 0..3 {
+            let mut list = Vec::with_capacity(places);
+            assert_eq!(list.capacity(), places);
+            list.resize(places, Place::new(9, 9, 9));
+            let answer = table_rows(&bytes, 1, &mut list);
+            let wanted: &[Place] = if places == 0 { &[] } else { &[Place::new(1, 0, 3)] };
+            assert_eq!((answer.count, &list[..], list.capacity()), (wanted.len(), wanted, places));
+            assert_eq!((answer.refused.number, answer.refused.page), if places == 0 { (19, 1) } else { (0, 0) });
+        }
+        let mut list = vec![Place::new(9, 9, 9)];
+        assert_eq!((table_rows(&bytes, 2, &mut list).refused.number, list.len()), (8, 0));
     }
 
     /// No page is asked to be one that a call answered.

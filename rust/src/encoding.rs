@@ -38,6 +38,23 @@ impl TextEncoding {
             TextEncoding::Utf16Be => utf16(bytes, u16::from_be_bytes),
         }
     }
+
+    /// The characters for display: a replacement character stands for each part that is not in this encoding.
+    pub fn decode_lossy(self, bytes: &[u8]) -> Cow<'_, str> {
+        match self {
+            TextEncoding::Utf8 => String::from_utf8_lossy(bytes),
+            TextEncoding::Utf16Le => utf16_lossy(bytes, u16::from_le_bytes),
+            TextEncoding::Utf16Be => utf16_lossy(bytes, u16::from_be_bytes),
+        }
+    }
+}
+
+fn utf16_lossy(bytes: &[u8], unit: fn([u8; 2]) -> u16) -> Cow<'_, str> {
+    let pairs = bytes.chunks_exact(2);
+    let half = (!pairs.remainder().is_empty()).then_some(char::REPLACEMENT_CHARACTER);
+    let units = pairs.map(|pair| unit([pair[0], pair[1]]));
+    let characters = char::decode_utf16(units).map(|one| one.unwrap_or(char::REPLACEMENT_CHARACTER));
+    Cow::Owned(characters.chain(half).collect())
 }
 
 fn utf16(bytes: &[u8], unit: fn([u8; 2]) -> u16) -> Option<Cow<'_, str>> {
@@ -61,5 +78,13 @@ mod tests {
         assert_eq!(TextEncoding::Utf16Be.decode(b"\0H\0i").as_deref(), Some("Hi"));
         assert_eq!(TextEncoding::Utf16Be.decode(b"\0H\0"), None);
         assert_eq!(TextEncoding::Utf16Be.decode(b"\xd8\0\0H"), None);
+    }
+
+    #[test]
+    fn what_is_no_text_is_displayed_as_far_as_it_is_one() {
+        assert_eq!(TextEncoding::Utf8.decode_lossy("Volt Ω".as_bytes()), "Volt Ω");
+        assert_eq!(TextEncoding::Utf8.decode_lossy(b"a\xffb"), "a\u{fffd}b");
+        assert_eq!(TextEncoding::Utf16Le.decode_lossy(b"H\0i\0"), "Hi");
+        assert_eq!(TextEncoding::Utf16Be.decode_lossy(b"\xd8\0\0H\0"), "\u{fffd}H\u{fffd}");
     }
 }

@@ -1,6 +1,6 @@
 use crate::bytes::Bytes;
 use crate::calls;
-use crate::{DbHeader, Leaves, Notes, Page, Reading, Refusal, Rows, Value};
+use crate::{DbHeader, Leaves, Notes, Page, Reading, Refusal, Rows, Schema, Table, Value};
 use std::ops::Range;
 
 /// How many pages a database has.
@@ -73,6 +73,23 @@ impl<'a> Gauge<'a> {
     /// Every cell of every table leaf, in the order of the file: what the program `rows` lists.
     pub fn rows(&self, reading: Reading) -> Result<Rows<'a>, Refusal> {
         Ok(Rows::of(self.leaves(reading)?))
+    }
+
+    /// All rows of the table at a root page, which counts from 1: the rows alone, in the rising order of their numbers.
+    pub fn table(&self, root: u32) -> Result<Table<'a>, Refusal> {
+        Table::of(self.bytes, root)
+    }
+
+    /// How many rows the table at a root page has: the same walk, with no list made of them.
+    pub fn count_rows(&self, root: u32) -> Result<usize, Refusal> {
+        let answer = calls::table_count(self.bytes.0, root);
+        Refusal::check(&answer.refused)?;
+        Ok(answer.count)
+    }
+
+    /// The tables that the database names, with their root pages: what its own table, at root 1, lists.
+    pub fn schema(&self) -> Result<Schema, Refusal> {
+        Schema::of(*self)
     }
 
     /// One value: column `column` of cell `cell`. Where several are asked for, a [`Cell`](crate::Cell) is quicker.

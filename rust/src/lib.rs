@@ -31,8 +31,9 @@
 //! ```
 //!
 //! Pages count from 0 in the old reading, as in the original's `get_page`, and from 1 in the other two; cells and columns
-//! count from 0. Long notes, which spill to overflow pages, are shown where [`Notes`] are lent. [`moving`] shows how to
-//! come over from sqlite-parser-nom.
+//! count from 0. [`Gauge::schema`] names the tables, and [`Gauge::table`] lists the rows of one in the order of their numbers.
+//! Long notes, which spill to overflow pages, are shown where [`Notes`] are lent. [`moving`] shows how to come over from
+//! sqlite-parser-nom.
 
 #![deny(unsafe_code)]
 #![warn(missing_docs)]
@@ -49,12 +50,15 @@ mod kind;
 mod mark;
 mod notes;
 mod page;
+mod place;
 mod reading;
 mod refusal;
 mod rows;
+mod schema;
 mod table;
 mod value;
 mod values;
+mod walk;
 
 pub use cell::{Cell, Cells};
 pub use encoding::TextEncoding;
@@ -65,11 +69,14 @@ pub use kind::Kind;
 pub use mark::Mark;
 pub use notes::Notes;
 pub use page::Page;
+pub use place::Place;
 pub use reading::Reading;
 pub use refusal::Refusal;
 pub use rows::{Leaves, Row, Rows};
+pub use schema::{Named, Root, Schema, Unread, Unreadable};
 pub use value::{Value, Width};
 pub use values::Values;
+pub use walk::{Table, TableRows};
 
 #[doc = include_str!("../docs/MOVING.md")]
 pub mod moving {}

@@ -11,6 +11,7 @@ pub struct Refusal {
     // Words, though bytes would do: a row is a result, and one that is words alone is moved with less work.
     number: usize,
     mark: usize,
+    page: usize,
     cell: usize,
     column: usize,
 }
@@ -41,6 +42,10 @@ const REASONS: &[(usize, &str, &str)] = &[
     (22, "OverLimit", "there are over 1,073,741,824 bytes"),
     (23, "ChainUnfit", "the overflow chain leaves the file, ends early or goes on"),
     (24, "BufferTooShort", "the gather buffer is shorter than the payload"),
+    (25, "IndexPage", "the page is of an index"),
+    (26, "TooDeep", "the page is over 20 pages deep"),
+    (27, "OutOfOrder", "the row number or key is out of order"),
+    (28, "VisitsUsedUp", "one more page is due than the file has"),
 ];
 
 impl Refusal {
@@ -58,12 +63,12 @@ impl Refusal {
     #[inline(never)]
     fn of(refused: &calls::Refused) -> Refusal {
         let (number, mark) = (usize::from(refused.number), usize::from(refused.mark));
-        Refusal { number, mark, cell: refused.cell, column: refused.column }
+        Refusal { number, mark, page: refused.page as usize, cell: refused.cell, column: refused.column }
     }
 
     /// The refusal of a database that is too long, 22.
     pub(crate) fn over_limit() -> Refusal {
-        Refusal { number: 22, mark: 0, cell: 0, column: 0 }
+        Refusal { number: 22, mark: 0, page: 0, cell: 0, column: 0 }
     }
 
     /// The number, as the table of refusals in `docs/READINGS.md` has it.
@@ -86,9 +91,14 @@ impl Refusal {
         self.reason().1
     }
 
-    /// The cell that is refused, where one is: for 12 to 18, 21, 23 and 24.
+    /// The page, as the reading counts it that refuses: for all but 1 to 7 and 22, which are of the database.
+    pub fn page(self) -> Option<u32> {
+        (!matches!(self.number, 1..=7 | 22)).then_some(self.page as u32)
+    }
+
+    /// The cell that is refused, where one is: for 12 to 18, 21, 23, 24 and 27.
     pub fn cell(self) -> Option<usize> {
-        matches!(self.number, 12..=18 | 21 | 23 | 24).then_some(self.cell)
+        matches!(self.number, 12..=18 | 21 | 23 | 24 | 27).then_some(self.cell)
     }
 
     /// The column that is refused, where one is: for 15 and 16.
@@ -102,12 +112,15 @@ impl Refusal {
     }
 }
 
-/// For example `refused 15 (TypeReserved) in cell 1, column 0: the type is 10 or 11, which are reserved`.
+/// For example `refused 15 (TypeReserved) on page 2, cell 1, column 0: the type is 10 or 11, which are reserved`.
 impl fmt::Display for Refusal {
     fn fmt(&self, f: &mut fmt::Formatter<'_>) -> fmt::Result {
         write!(f, "refused {} ({})", self.number, self.name())?;
+        if let Some(page) = self.page() {
+            write!(f, " on page {page}")?;
+        }
         if let Some(cell) = self.cell() {
-            write!(f, " in cell {cell}")?;
+            write!(f, ", cell {cell}")?;
         }
         if let Some(column) = self.column() {
             write!(f, ", column {column}")?;
@@ -136,7 +149,7 @@ mod tests {
             let (Some(Ok(number)), Some(name)) = (fields.next().map(str::parse), fields.next()) else {
                 continue;
             };
-            let refusal = Refusal { number, mark: 0, cell: 0, column: 0 };
+            let refusal = Refusal { number, mark: 0, page: 0, cell: 0, column: 0 };
             if number != 20 {
                 assert_eq!(format!("`{}`", refusal.name()), name);
             }

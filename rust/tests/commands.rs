@@ -2,75 +2,12 @@
 
 mod common;
 
+use common::command::{command, err, fed, kept, out, run, status, Kept};
+use common::trees::named;
 use common::{every_kind, long_notes, note, put, two_rows};
 use std::ffi::OsStr;
 use std::fs::{self, File};
-use std::io::Write;
-use std::path::{Path, PathBuf};
-use std::process::{Command, Output, Stdio};
-
-/// The command; on another machine than x86-64, under the emulator that bin/rust-test names.
-fn command() -> Command {
-    let program = env!("CARGO_BIN_EXE_shorgavel");
-    match std::env::var_os("SHORGAVEL_UNDER") {
-        Some(emulator) => {
-            let mut command = Command::new(emulator);
-            command.arg(program);
-            command
-        }
-        None => Command::new(program),
-    }
-}
-
-fn run<S: AsRef<OsStr>>(words: &[S]) -> Output {
-    command().args(words).output().expect("the command runs")
-}
-
-fn fed(words: &[&str], bytes: &[u8]) -> Output {
-    let mut command = command();
-    command.args(words).stdin(Stdio::piped()).stdout(Stdio::piped()).stderr(Stdio::piped());
-    let mut child = command.spawn().expect("the command runs");
-    child.stdin.take().unwrap().write_all(bytes).unwrap();
-    child.wait_with_output().unwrap()
-}
-
-fn out(output: &Output) -> &str {
-    std::str::from_utf8(&output.stdout).unwrap()
-}
-
-fn err(output: &Output) -> &str {
-    std::str::from_utf8(&output.stderr).unwrap()
-}
-
-fn status(output: &Output) -> i32 {
-    output.status.code().unwrap()
-}
-
-/// The inputs and outputs that are kept for the proved program `rows`.
-fn kept(name: &str, file: &str) -> PathBuf {
-    Path::new(env!("CARGO_MANIFEST_DIR")).join("../crates").join(name).join(file)
-}
-
-/// A file that is gone once the test is over.
-struct Kept(PathBuf);
-
-impl Kept {
-    fn new(name: &str, bytes: &[u8]) -> Kept {
-        let path = Path::new(env!("CARGO_TARGET_TMPDIR")).join(name);
-        fs::write(&path, bytes).unwrap();
-        Kept(path)
-    }
-
-    fn show(&self, words: &[&str]) -> Output {
-        command().arg(words[0]).arg(&self.0).args(&words[1..]).output().unwrap()
-    }
-}
-
-impl Drop for Kept {
-    fn drop(&mut self) {
-        fs::remove_file(&self.0).unwrap();
-    }
-}
+use std::process::Stdio;
 
 #[test]
 fn rows_are_the_proved_programs_lines() {
@@ -103,7 +40,7 @@ fn over_the_limit_is_refused_unread() {
     File::options().write(true).open(&file.0).unwrap().set_len(1_073_741_825).unwrap();
     let output = file.show(&["rows"]);
     assert_eq!((out(&output), status(&output)), ("page cell reading rowid values\nrefused 22\n", 1));
-    for words in [&["header"][..], &["page", "1"], &["compare"], &["sheet"]] {
+    for words in [&["header"][..], &["page", "1"], &["tables"], &["compare"], &["sheet"]] {
         let output = file.show(words);
         assert_eq!((out(&output), status(&output)), ("", 1));
         assert_eq!(err(&output), "shorgavel: refused 22 (OverLimit): there are over 1,073,741,824 bytes\n");
@@ -136,10 +73,10 @@ fn rows_shows_long_notes_where_it_is_asked_to() {
     let (plain, lent) = (file.show(&["rows"]), file.show(&["rows", "--notes"]));
     assert_eq!((status(&plain), status(&lent)), (0, 0));
     for (cell, payload) in [(0, 600), (1, 987), (3, 478)] {
-        let refused = format!("\n2 {cell} file refused 18 {cell} 0 0\n2 {cell} guarded refused 18 {cell} 0 0\n");
+        let refused = format!("\n2 {cell} file refused 18 2 {cell} 0 0\n2 {cell} guarded refused 18 2 {cell} 0 0\n");
         assert!(out(&plain).contains(&refused));
         let (row, line) = (cell + 1, long_line(payload));
-        let shown = format!("\n2 {cell} file {row} {line}\n2 {cell} guarded refused 21 {cell} 0 5\n");
+        let shown = format!("\n2 {cell} file {row} {line}\n2 {cell} guarded refused 21 2 {cell} 0 5\n");
         assert!(out(&lent).contains(&shown));
     }
     let alone = file.show(&["rows", "--notes", "--reading", "file"]);
@@ -209,7 +146,7 @@ fn page_has_head_and_entries() {
     assert!(out(&file.show(&["page", "0", "--reading", "old"])).starts_with("page 0, old reading\n"));
     let absent = file.show(&["page", "2"]);
     assert_eq!((out(&absent), status(&absent)), ("", 1));
-    assert_eq!(err(&absent), "shorgavel: refused 8 (PageAbsent): the page is not wholly in the bytes\n");
+    assert_eq!(err(&absent), "shorgavel: refused 8 (PageAbsent) on page 2: the page is not wholly in the bytes\n");
 }
 
 #[test]
@@ -222,12 +159,13 @@ page 1 cell 10: a header size that is not in one byte: old shows row 11: 8, 1100
 page 1 cell 11: file refuses it (14 HeaderUnfit: the record's header does not fit), old shows row 12: 5
 ";
     assert!(out(&output).starts_with(expected));
-    assert!(out(&output).ends_with("\n14 cells compared: 5 part, 2 are refused by old and file alike\n"));
+    assert!(out(&output).ends_with("\n12 cells compared: 4 part, 2 are refused by old and file alike\n"));
     assert_eq!((err(&output), status(&output)), ("", 1));
     let largest = run(&[OsStr::new("compare"), kept("rows_largest", "stdin").as_os_str()]);
     let first = "page 1 cell 0: a varint of over five bytes: old refuses it (13 CellCut: the cell is cut short), \
                  the gauge wrote row -1: 42, ''\n";
-    assert!(out(&largest).starts_with(first));
+    // Its row numbers do not rise, so that it is no table.
+    assert!(out(&largest).contains(&format!("\nof no table: {first}")));
 }
 
 #[test]
@@ -235,7 +173,10 @@ fn compare_is_content_where_they_agree() {
     let mut bytes = every_kind();
     bytes[506] = 8;
     let output = fed(&["compare", "-"], &bytes);
-    let expected = "2 cells compared: 0 part, 0 are refused by old and file alike\n";
+    let expected = "\
+row 1 of the schema, page 1 cell 0, tells nothing: it has not five columns (and 1 more rows)
+2 cells compared: 0 part, 0 are refused by old and file alike
+";
     assert_eq!((out(&output), status(&output)), (expected, 0));
 }
 
@@ -250,15 +191,15 @@ fn compare_tells_what_guarded_alone_refuses() {
     assert!(out(&fed(&["compare", "-"], &bytes)).starts_with(&differing));
     bytes[507] = 0x80;
     let output = fed(&["compare", "-"], &bytes);
-    let expected = format!("{place}and file show the same, guarded refuses it\n2 cells compared: 1 part, ");
-    assert!(out(&output).starts_with(&expected));
+    let expected = format!("{place}and file show the same, guarded refuses it\n");
+    assert!(out(&output).starts_with(&expected) && out(&output).contains("\n2 cells compared: 1 part, "));
     assert_eq!(status(&output), 1);
 }
 
 /// Of rows 1 and 2 old does not find all bytes on the page; of row 4 it shows others that stand there.
 #[test]
 fn compare_shows_long_notes() {
-    let output = fed(&["compare", "-"], &long_notes());
+    let output = fed(&["compare", "-"], &named(long_notes(), "notes", 2));
     let text = |payload: usize| String::from_utf8(note(payload)[7..67].to_vec()).unwrap();
     let place = |cell: usize| format!("page 2 cell {cell}: a long note, whose payload spills: old refuses it (");
     let passes = "16 ValueUnfit in column 1: the value passes the end, or bytes are left over behind the last";
@@ -273,14 +214,14 @@ fn compare_shows_long_notes() {
     assert!(column.ends_with(&wrote));
     let blob = lines.next().unwrap();
     assert!(blob.starts_with("page 2 cell 3 column 3: a long note, whose payload spills: old shows x'"));
-    assert_eq!(lines.next(), Some("4 cells compared: 3 part, 0 are refused by old and file alike"));
+    assert_eq!(lines.next(), Some("5 cells compared: 3 part, 0 are refused by old and file alike"));
     assert_eq!((lines.next(), status(&output)), (None, 1));
 }
 
 /// A chain that ends early, where old refuses the row as well.
 #[test]
 fn compare_tells_what_is_refused_of_long_notes() {
-    let mut bytes = long_notes();
+    let mut bytes = named(long_notes(), "notes", 2);
     put(&mut bytes, 4 * 512, &[0; 4]);
     // A type 9 in place of row 4's null: a lower mark, but the text differs for its length.
     bytes[512 + 20 + 3 + 4] = 9;
@@ -288,19 +229,19 @@ fn compare_tells_what_is_refused_of_long_notes() {
     assert!(!out(&output).contains("page 2 cell 1"));
     assert!(out(&output).contains("\npage 2 cell 3 column 1: a long note, whose payload spills: old shows "));
     assert!(out(&output).contains("\npage 2 cell 3 column 2: type 9: old shows 0, the gauge wrote 1\n"));
-    assert!(out(&output).ends_with("\n4 cells compared: 2 part, 1 are refused by old and file alike\n"));
+    assert!(out(&output).ends_with("\n5 cells compared: 2 part, 1 are refused by old and file alike\n"));
 }
 
 #[test]
 fn sheet_shows_long_notes() {
-    let mut bytes = long_notes();
+    let mut bytes = named(long_notes(), "notes", 2);
     put(&mut bytes, 4 * 512, &[0; 4]);
     for words in [&["sheet", "-"][..], &["sheet", "-", "--parting"]] {
         let output = fed(words, &bytes);
         let text = String::from_utf8(note(600)[7..67].to_vec()).unwrap();
         assert!(out(&output).contains(&format!("<b class=\"l\">'{text}'… (591 bytes)</b>")));
         assert!(out(&output).contains(">refused 21 Marked: a long note, whose payload spills"));
-        assert!(out(&output).contains("The readings part on 2 of 4 rows"));
+        assert!(out(&output).contains("The readings part on 2 of 5 rows"));
         let chain = ">refused 23 ChainUnfit: the overflow chain leaves the file, ends early or goes on";
         assert_eq!(out(&output).contains(chain), words.len() == 2);
         assert!(!out(&output).contains("refused 18"));
@@ -357,7 +298,9 @@ fn help_and_version_are_told() {
     for word in ["-h", "--help"] {
         let output = run(&[word]);
         assert_eq!((err(&output), status(&output)), ("", 0));
-        for command in ["header", "page", "rows", "compare", "sheet", "--reading", "--notes", "--parting"] {
+        for command in
+            ["header", "page", "tables", "rows", "compare", "sheet", "--reading", "--table", "--notes", "--parting"]
+        {
             assert!(out(&output).contains(&format!("\n  {command} ")), "{command}");
         }
     }
@@ -367,7 +310,8 @@ fn help_and_version_are_told() {
 
 #[test]
 fn wrong_words_end_with_2() {
-    let wrong: [(&[&str], &str); 12] = [
+    let root = "--table takes the number of a root page, as `shorgavel tables` lists it";
+    let wrong: [(&[&str], &str); 16] = [
         (&[], "a command is missing"),
         (&["row"], "there is no command row"),
         (&["rows"], "rows: FILE is missing"),
@@ -378,6 +322,10 @@ fn wrong_words_end_with_2() {
         (&["rows", "-", "--reading"], "--reading takes old, file or guarded"),
         (&["rows", "-", "--reading", "new"], "--reading takes old, file or guarded"),
         (&["sheet", "-", "--reading", "old"], "sheet takes no --reading"),
+        (&["rows", "-", "--table"], root),
+        (&["rows", "-", "--table", "load"], root),
+        (&["compare", "-", "--table", "2"], "compare takes no --table"),
+        (&["tables", "-", "--reading", "old"], "tables takes no --reading"),
         (&["sheet", "-", "--notes"], "sheet takes no --notes"),
         (&["rows", "-", "--parting"], "rows takes no --parting"),
     ];

@@ -43,7 +43,7 @@ fn header_is_refused_by_number() {
     assert_eq!(Gauge::new(&[]).header(File).unwrap_err().number(), 1);
     let refusal = Gauge::new(&two_rows()[..99]).header(Old).unwrap_err();
     assert_eq!((refusal.number(), refusal.name()), (2, "HeaderCut"));
-    assert_eq!((refusal.cell(), refusal.column(), refusal.mark()), (None, None, None));
+    assert_eq!((refusal.page(), refusal.cell(), refusal.column(), refusal.mark()), (None, None, None, None));
     assert_eq!(refusal.to_string(), "refused 2 (HeaderCut): there are fewer than 100 bytes");
     assert_eq!(Gauge::new(&[]).rows(Guarded).unwrap_err().number(), 1);
     assert_eq!(Gauge::new(&[]).pages(Old).unwrap_err().number(), 1);
@@ -163,9 +163,9 @@ fn a_stored_one_parts_the_readings() {
     assert_eq!((file.rowid(), file.columns()), (1, 2));
     assert_eq!(values(&file), [Value::Integer(1), Value::Integer(16_777_216)]);
     let refusal = cell(&bytes, Guarded, 0).unwrap_err();
-    assert_eq!((refusal.number(), refusal.name(), refusal.cell()), (21, "Marked", Some(0)));
+    assert_eq!((refusal.number(), refusal.name(), refusal.page(), refusal.cell()), (21, "Marked", Some(1), Some(0)));
     assert_eq!((refusal.mark(), refusal.column()), (Some(Mark::TypeNine), None));
-    let said = "refused 21 (Marked) in cell 0: old and file need not agree: a type 9, a stored 1";
+    let said = "refused 21 (Marked) on page 1, cell 0: old and file need not agree: a type 9, a stored 1";
     assert_eq!(refusal.to_string(), said);
     assert_eq!(values(&cell(&bytes, Guarded, 1).unwrap()), values(&cell(&bytes, Old, 1).unwrap()));
 }
@@ -328,9 +328,12 @@ fn one_refused_cell_leaves_the_others() {
     let mut bytes = every_kind();
     bytes[404] = 10;
     let refusal = cell(&bytes, File, 1).unwrap_err();
-    assert_eq!((refusal.number(), refusal.cell(), refusal.column()), (15, Some(1), Some(1)));
-    let said = "refused 15 (TypeReserved) in cell 1, column 1: the type is 10 or 11, which are reserved";
+    assert_eq!((refusal.number(), refusal.page(), refusal.cell(), refusal.column()), (15, Some(1), Some(1), Some(1)));
+    let said = "refused 15 (TypeReserved) on page 1, cell 1, column 1: the type is 10 or 11, which are reserved";
     assert_eq!(refusal.to_string(), said);
+    // Old counts the same page from 0.
+    let in_old = cell(&bytes, Old, 1).unwrap_err();
+    assert_eq!((in_old.number(), in_old.page(), in_old.cell()), (15, Some(0), Some(1)));
     let page = Gauge::new(&bytes).get_page(File, 1).unwrap();
     assert_eq!(page.head(), Err(refusal));
     assert_eq!(page.entries(), Err(refusal));
@@ -444,7 +447,7 @@ fn guarded_marks_long_notes() {
     let (mut bytes, mut notes) = (long_notes(), Notes::new());
     let refusal = Gauge::new(&bytes).get_page(Guarded, 2).unwrap().cell_with(1, &mut notes).unwrap_err();
     assert_eq!((refusal.number(), refusal.cell(), refusal.mark()), (21, Some(1), Some(Mark::Spills)));
-    let said = "refused 21 (Marked) in cell 1: old and file need not agree: a long note, whose payload spills";
+    let said = "refused 21 (Marked) on page 2, cell 1: old and file need not agree: a long note, whose payload spills";
     assert_eq!(refusal.to_string(), said);
     assert_eq!(Gauge::new(&bytes).value_with(Guarded, 2, 1, 1, &mut notes), Err(refusal));
     assert_eq!(Gauge::new(&bytes).get_page(Guarded, 2).unwrap().cell(1).unwrap_err().number(), 18);
@@ -517,17 +520,17 @@ fn chains_that_are_not_sound_are_refused() {
         assert_eq!(Gauge::new(&bytes).value_with(Guarded, 2, 1, 0, &mut notes), Err(file));
         file.to_string()
     };
-    let chain = "refused 23 (ChainUnfit) in cell 1: the overflow chain leaves the file, ends early or goes on";
+    let chain = "refused 23 (ChainUnfit) on page 2, cell 1: the overflow chain leaves the file, ends early or goes on";
     let first = 512 + 367 + 3 + 39;
     // It leaves the file, ends early, goes on, and goes in a circle.
     for (at, next) in [(first, 9), (first, 0), (4 * 512, 0), (3 * 512, 5), (3 * 512, 3), (4 * 512, 5)] {
         assert_eq!(refused(at, &[0, 0, 0, next]), chain);
     }
     // A payload that is longer than the file is in none of its chains.
-    let short = "refused 24 (BufferTooShort) in cell 1: the gather buffer is shorter than the payload";
+    let short = "refused 24 (BufferTooShort) on page 2, cell 1: the gather buffer is shorter than the payload";
     assert_eq!(refused(512 + 367, &[0xff, 0x7f]), short);
     // What is kept and the number of the next page pass the page's end.
-    assert_eq!(refused(512 + 10, &[1, 0xfb]), "refused 13 (CellCut) in cell 1: the cell is cut short");
+    assert_eq!(refused(512 + 10, &[1, 0xfb]), "refused 13 (CellCut) on page 2, cell 1: the cell is cut short");
 }
 
 /// Nothing is allocated until a payload spills, and a buffer is shown by its length alone.

@@ -54,8 +54,8 @@ static void header(void) {
     CHECK(shorgavel_header(counting, sizeof counting, SHORGAVEL_OLD).fields.reserved_space == 0);
 
     h = shorgavel_header(db, 99, SHORGAVEL_OLD);
-    CHECK(refused(h.refused, 2, 0, 0, 0) && h.fields.page_size == 0);
-    CHECK(refused(shorgavel_header(db, 0, SHORGAVEL_FILE).refused, 1, 0, 0, 0));
+    CHECK(refused(h.refused, 2, 0, 0, 0, 0) && h.fields.page_size == 0);
+    CHECK(refused(shorgavel_header(db, 0, SHORGAVEL_FILE).refused, 1, 0, 0, 0, 0));
 }
 
 /* As many pages as are whole, and none with no bytes. */
@@ -68,14 +68,14 @@ static void pages(void) {
         CHECK(shorgavel_pages(file, 3 * sizeof db, r).count == 3 && shorgavel_pages(file, 3 * sizeof db - 1, r).count == 2);
         CHECK(shorgavel_pages(db, sizeof db, r).count == 1 && shorgavel_pages(db, sizeof db - 1, r).count == 0);
         p = shorgavel_pages(db, 99, r);
-        CHECK(refused(p.refused, 2, 0, 0, 0) && p.count == 0);
-        CHECK(refused(shorgavel_pages(db, 0, r).refused, 1, 0, 0, 0));
+        CHECK(refused(p.refused, 2, 0, 0, 0, 0) && p.count == 0);
+        CHECK(refused(shorgavel_pages(db, 0, r).refused, 1, 0, 0, 0, 0));
     }
     file[16] = 0;
     shorgavel_pages_answer p = shorgavel_pages(file, sizeof file, SHORGAVEL_OLD);
     CHECK(accepted(p.refused) && p.count == 0);
     p = shorgavel_pages(file, sizeof file, SHORGAVEL_FILE);
-    CHECK(refused(p.refused, 4, 0, 0, 0) && p.count == 0);
+    CHECK(refused(p.refused, 4, 0, 0, 0, 0) && p.count == 0);
 }
 
 /* The size at byte 28 counts where the counters at 24 and 92 are equal, and not in the old reading; a page is still to be there. */
@@ -108,7 +108,8 @@ static void page(void) {
     CHECK(p.head.content_start == 494 && p.head.fragmented == 0 && p.head.rightmost == 0);
     CHECK(shorgavel_page(db, sizeof db, SHORGAVEL_OLD, 0).head.cells == 2);
     p = shorgavel_page(db, sizeof db, SHORGAVEL_FILE, 2);
-    CHECK(refused(p.refused, 8, 0, 0, 0) && p.head.cells == 0);
+    CHECK(refused(p.refused, 8, 0, 2, 0, 0) && p.head.cells == 0);
+    CHECK(refused(shorgavel_page(db, sizeof db, SHORGAVEL_OLD, 1).refused, 8, 0, 1, 0, 0));
 
     shorgavel_cell_entry e = shorgavel_entry(db, sizeof db, SHORGAVEL_FILE, 1, 1);
     CHECK(e.kind == 13 && e.pointer == 494 && e.child == 0 && e.payload_size == 7);
@@ -123,7 +124,7 @@ static void entries(void) {
     for (size_t i = 0; i < 3; i++) table[i] = (shorgavel_cell_entry){.kind = 255, .pointer = 7};
 
     shorgavel_page_answer p = shorgavel_entries(db, sizeof db, SHORGAVEL_FILE, 1, table, 1);
-    CHECK(refused(p.refused, 19, 0, 0, 0) && p.head.cells == 0 && table[0].kind == 255);
+    CHECK(refused(p.refused, 19, 0, 1, 0, 0) && p.head.cells == 0 && table[0].kind == 255);
 
     p = shorgavel_entries(db, sizeof db, SHORGAVEL_FILE, 1, table, 3);
     CHECK(accepted(p.refused) && p.head.kind == 13 && p.head.cells == 2 && p.head.content_start == 494);
@@ -165,7 +166,7 @@ static void cells(void) {
     two_values(shorgavel_file_values, c.along, 1, 0, 0);
 
     c = shorgavel_guarded_cell(db, sizeof db, 1, 0);
-    CHECK(refused(c.refused, 21, 3, 0, 0) && c.row == 0 && c.columns == 0);
+    CHECK(refused(c.refused, 21, 3, 1, 0, 0) && c.row == 0 && c.columns == 0);
     CHECK(along(c.along, 0, 0, 0, 0));
 
     c = shorgavel_old_cell(db, sizeof db, 0, 1);
@@ -178,7 +179,7 @@ static void cells(void) {
     CHECK(accepted(c.refused) && c.row == 2 && c.columns == 2);
     two_values(shorgavel_file_values, c.along, 0, 0, 0);
 
-    CHECK(refused(shorgavel_file_cell(db, sizeof db, 1, 2).refused, 20, 0, 0, 0));
+    CHECK(refused(shorgavel_file_cell(db, sizeof db, 1, 2).refused, 20, 0, 1, 0, 0));
 }
 
 static int opened(shorgavel_opened o, int reading) {
@@ -200,14 +201,14 @@ static void opened_pages(void) {
         CHECK(accepted(o.refused) && opened(o.opened, r));
     }
     CHECK(opened(open_page(3).opened, SHORGAVEL_FILE) && opened(open_page(255).opened, SHORGAVEL_FILE));
-    CHECK(refused(shorgavel_open(db, sizeof db, SHORGAVEL_FILE, 2).refused, 8, 0, 0, 0));
-    CHECK(refused(shorgavel_open(db, sizeof db, SHORGAVEL_GUARDED, 0).refused, 8, 0, 0, 0));
-    CHECK(refused(shorgavel_open(db, sizeof db, SHORGAVEL_GUARDED, 2).refused, 8, 0, 0, 0));
+    CHECK(refused(shorgavel_open(db, sizeof db, SHORGAVEL_FILE, 2).refused, 8, 0, 2, 0, 0));
+    CHECK(refused(shorgavel_open(db, sizeof db, SHORGAVEL_GUARDED, 0).refused, 8, 0, 0, 0, 0));
+    CHECK(refused(shorgavel_open(db, sizeof db, SHORGAVEL_GUARDED, 2).refused, 8, 0, 2, 0, 0));
 
     for (size_t i = 0; i < sizeof others; i++) {
         db[100] = others[i];
         shorgavel_opening guarded = open_page(SHORGAVEL_GUARDED);
-        CHECK(refused(guarded.refused, 10, 0, 0, 0) && guarded.opened.cells == 0 && guarded.opened.kind == 0);
+        CHECK(refused(guarded.refused, 10, 0, 1, 0, 0) && guarded.opened.cells == 0 && guarded.opened.kind == 0);
         CHECK(open_page(SHORGAVEL_OLD).opened.kind == others[i] && open_page(SHORGAVEL_FILE).opened.kind == others[i]);
     }
     db[100] = 13;
@@ -277,7 +278,7 @@ static void rows_are_cells(void) {
 }
 
 static void rows(void) {
-    CHECK(sizeof(shorgavel_row) == 80);
+    CHECK(sizeof(shorgavel_refused) == 24 && sizeof(shorgavel_row) == 80);
     rows_are_cells();
     shorgavel_value table[PLACES];
     make_blank(table);
@@ -298,13 +299,13 @@ static void rows(void) {
     db[100] = 13;
 }
 
-/* On a refusal all else is 0, and the table is left as it was. */
+/* On a refusal all else but its page is 0, and the table is left as it was. */
 static int row_refused(const uint8_t *bytes, size_t length, shorgavel_opened page, size_t cell, int number, int mark) {
     shorgavel_value table[PLACES];
     make_blank(table);
     shorgavel_row row = shorgavel_row_in(bytes, length, page, cell, table, SHORGAVEL_WORDS(PLACES));
-    return row.refused.number == number && row.refused.mark == mark && row.number == 0 && row.columns == 0 &&
-           row.count == 0 && along(row.along, 0, 0, 0, 0) && all_blank(table);
+    return row.refused.number == number && row.refused.mark == mark && row.refused.page == page.number && row.number == 0 &&
+           row.columns == 0 && row.count == 0 && along(row.along, 0, 0, 0, 0) && all_blank(table);
 }
 
 static void refused_rows(void) {
@@ -388,11 +389,11 @@ static void values(void) {
     s = shorgavel_file_value(db, sizeof db, 1, 0, 0);
     CHECK(accepted(s.refused) && integer(s.value, 0, 1));
     s = shorgavel_guarded_value(db, sizeof db, 1, 0, 0);
-    CHECK(refused(s.refused, 21, 3, 0, 0) && nothing(s.value));
+    CHECK(refused(s.refused, 21, 3, 1, 0, 0) && nothing(s.value));
     s = shorgavel_guarded_value(db, sizeof db, 1, 1, 1);
     CHECK(accepted(s.refused) && integer(s.value, 0, 16777216));
     s = shorgavel_file_value(db, sizeof db, 1, 1, 2);
-    CHECK(refused(s.refused, 20, 0, 0, 0) && nothing(s.value));
+    CHECK(refused(s.refused, 20, 0, 1, 0, 0) && nothing(s.value));
 }
 
 /* A row with every kind of value: types 1, 2, 6, 7, 17, 16 and 0. Its cell stands at 400, its values from 410 on. */
@@ -433,10 +434,10 @@ static void kinds(void) {
 /* A refusal with a cell and a column: the first type of cell 1 is reserved. */
 static void reserved(void) {
     db[403] = 10;
-    CHECK(refused(shorgavel_page(db, sizeof db, SHORGAVEL_FILE, 1).refused, 15, 0, 1, 0));
+    CHECK(refused(shorgavel_page(db, sizeof db, SHORGAVEL_FILE, 1).refused, 15, 0, 1, 1, 0));
     db[403] = 1;
     db[404] = 10;
-    CHECK(refused(shorgavel_file_cell(db, sizeof db, 1, 1).refused, 15, 0, 1, 1));
+    CHECK(refused(shorgavel_file_cell(db, sizeof db, 1, 1).refused, 15, 0, 1, 1, 1));
     CHECK(row_refused(db, sizeof db, open_page(SHORGAVEL_FILE).opened, 1, 15, 0));
     rows_are_cells();
 }

@@ -19,15 +19,15 @@ static inline void check(int holds, const char *what, int line) {
 
 /* WHAT IS EXPECTED, field by field: structs have padding, which no call fills */
 
-static inline int refused(shorgavel_refused r, int number, int mark, size_t cell, size_t column) {
-    return r.number == number && r.mark == mark && r.cell == cell && r.column == column;
+static inline int refused(shorgavel_refused r, int number, int mark, uint32_t page, size_t cell, size_t column) {
+    return r.number == number && r.mark == mark && r.page == page && r.cell == cell && r.column == column;
 }
 
 static inline int same_refused(shorgavel_refused a, shorgavel_refused b) {
-    return refused(a, b.number, b.mark, b.cell, b.column);
+    return refused(a, b.number, b.mark, b.page, b.cell, b.column);
 }
 
-static inline int accepted(shorgavel_refused r) { return refused(r, 0, 0, 0, 0); }
+static inline int accepted(shorgavel_refused r) { return refused(r, 0, 0, 0, 0, 0); }
 
 static inline int value(shorgavel_value v, int kind, int width, int64_t integer, uint64_t bits, size_t at, size_t len) {
     return v.kind == kind && v.width == width && v.integer == integer && v.bits == bits && v.at == at && v.len == len;

@@ -136,8 +136,8 @@ static shorgavel_lent_row row_by(shorgavel_opened page, size_t cell, shorgavel_v
     return shorgavel_row_lent(db, length, page, cell, table, SHORGAVEL_WORDS(places), buffer, room);
 }
 
-static int value_refused(shorgavel_lent_value v, int number, int mark, size_t cell, size_t column, size_t held) {
-    return refused(v.refused, number, mark, cell, column) && nothing(v.value) && v.source == 0 && holds(held);
+static int value_refused(shorgavel_lent_value v, shorgavel_refused why, size_t held) {
+    return same_refused(v.refused, why) && nothing(v.value) && v.source == 0 && holds(held);
 }
 
 /* On a refusal all else is 0, and the table is left as it was. */
@@ -150,11 +150,11 @@ static int row_refused(shorgavel_opened page, size_t cell, size_t room, shorgave
 
 /* By every call, with so much of the payload in the buffer. */
 static void all_refuse(const spilled *s, size_t room, int number, size_t column, size_t held) {
-    shorgavel_refused why = {.number = (uint8_t)number, .cell = s->cell, .column = column};
-    CHECK(value_refused(value_by(shorgavel_file_value_lent, s, 0, room), number, 0, s->cell, column, held));
+    shorgavel_refused why = {.number = (uint8_t)number, .page = s->page, .cell = s->cell, .column = column};
+    CHECK(value_refused(value_by(shorgavel_file_value_lent, s, 0, room), why, held));
     CHECK(row_refused(opened(SHORGAVEL_FILE, s->page), s->cell, room, why, held));
     if (!in_table(s)) return;
-    CHECK(value_refused(value_by(shorgavel_guarded_value_lent, s, 0, room), number, 0, s->cell, column, held));
+    CHECK(value_refused(value_by(shorgavel_guarded_value_lent, s, 0, room), why, held));
     CHECK(row_refused(opened(SHORGAVEL_GUARDED, s->page), s->cell, room, why, held));
 }
 
@@ -174,8 +174,9 @@ static void values_are_shown(const spilled *s, size_t room) {
         shorgavel_lent_value v = value_by(shorgavel_file_value_lent, s, column, room);
         CHECK(accepted(v.refused) && is_column(v.value, column, s->payload) && v.source == 1 && holds(s->payload));
     }
-    CHECK(value_refused(value_by(shorgavel_file_value_lent, s, 4, room), 20, 0, 0, 0, s->payload));
-    CHECK(value_refused(value_by(shorgavel_file_value_lent, s, SIZE_MAX, room), 20, 0, 0, 0, s->payload));
+    shorgavel_refused why = {.number = 20, .page = s->page};
+    CHECK(value_refused(value_by(shorgavel_file_value_lent, s, 4, room), why, s->payload));
+    CHECK(value_refused(value_by(shorgavel_file_value_lent, s, SIZE_MAX, room), why, s->payload));
 }
 
 /* With tables of every size; from the cursor on, the buffer has the others. */
@@ -200,13 +201,13 @@ static void row_is_shown(const spilled *s, size_t room) {
 static void guarded_refuses(const spilled *s, size_t room, uint8_t mark) {
     shorgavel_lent_value v = value_by(shorgavel_guarded_value_lent, s, 0, room);
     if (!in_table(s)) {
-        CHECK(value_refused(v, 10, 0, 0, 0, 0));
+        CHECK(value_refused(v, (shorgavel_refused){.number = 10, .page = s->page}, 0));
         return;
     }
-    CHECK(value_refused(v, 21, mark, s->cell, 0, s->payload));
+    shorgavel_refused why = {.number = 21, .mark = mark, .page = s->page, .cell = s->cell};
+    CHECK(value_refused(v, why, s->payload));
     v = value_by(shorgavel_guarded_value_lent, s, 4, room);
-    CHECK(value_refused(v, 21, mark, s->cell, 0, s->payload));
-    shorgavel_refused why = {.number = 21, .mark = mark, .cell = s->cell};
+    CHECK(value_refused(v, why, s->payload));
     CHECK(row_refused(opened(SHORGAVEL_GUARDED, s->page), s->cell, room, why, s->payload));
 }
 
@@ -221,8 +222,8 @@ static void notes_are_shown(void) {
         }
         all_refuse(s, s->payload - 1, 24, 0, 0);
         all_refuse(s, 0, 24, 0, 0);
-        CHECK(refused(shorgavel_file_value(db, length, s->page, s->cell, 0).refused, 18, 0, s->cell, 0));
-        CHECK(refused(shorgavel_file_cell(db, length, s->page, s->cell).refused, 18, 0, s->cell, 0));
+        CHECK(refused(shorgavel_file_value(db, length, s->page, s->cell, 0).refused, 18, 0, s->page, s->cell, 0));
+        CHECK(refused(shorgavel_file_cell(db, length, s->page, s->cell).refused, 18, 0, s->page, s->cell, 0));
     }
 }
 
@@ -244,8 +245,8 @@ static void whole_rows(void) {
     for (size_t c = 0; c < 2; c++) {
         shorgavel_lent_value v = value_by(calls[c], &whole, 0, ROOM);
         CHECK(accepted(v.refused) && integer(v.value, 0, 7) && v.source == 0 && holds(0));
-        CHECK(value_refused(value_by(calls[c], &whole, 1, ROOM), 20, 0, 0, 0, 0));
-        CHECK(value_refused(value_by(calls[c], &absent, 0, ROOM), 20, 0, 0, 0, 0));
+        CHECK(value_refused(value_by(calls[c], &whole, 1, ROOM), (shorgavel_refused){.number = 20, .page = 2}, 0));
+        CHECK(value_refused(value_by(calls[c], &absent, 0, ROOM), (shorgavel_refused){.number = 20, .page = 2}, 0));
     }
     for (uint8_t reading = SHORGAVEL_OLD; reading <= SHORGAVEL_GUARDED; reading++) {
         row_is_plain(reading, 2, WHOLE);
@@ -258,11 +259,11 @@ static void whole_rows(void) {
 static void made_up_pages(void) {
     for (uint8_t r = SHORGAVEL_OLD; r <= SHORGAVEL_GUARDED; r++) {
         shorgavel_opened none = {r, 13, UINT32_MAX, UINT32_MAX, SIZE_MAX, SIZE_MAX, SIZE_MAX, SIZE_MAX};
-        CHECK(row_refused(none, 0, ROOM, (shorgavel_refused){.number = 8}, 0));
+        CHECK(row_refused(none, 0, ROOM, (shorgavel_refused){.number = 8, .page = UINT32_MAX}, 0));
     }
     shorgavel_opened index = opened(SHORGAVEL_FILE, 7);
     index.reading = SHORGAVEL_GUARDED;
-    CHECK(row_refused(index, 0, ROOM, (shorgavel_refused){.number = 10}, 0));
+    CHECK(row_refused(index, 0, ROOM, (shorgavel_refused){.number = 10, .page = 7}, 0));
 }
 
 /* CHAINS THAT ARE NOT SOUND: 23, and the buffer is left as it was */
@@ -400,7 +401,7 @@ static void row_is_values(value_call *call, uint8_t reading, size_t cell) {
         CHECK(memcmp(buffer, gathered, ROOM) == 0 && lies_inside(v.value, v.source));
     }
     shorgavel_lent_value v = value_by(call, &place, r.row.columns, ROOM);
-    CHECK(number != 0 ? same_refused(v.refused, r.row.refused) : refused(v.refused, 20, 0, 0, 0));
+    CHECK(number != 0 ? same_refused(v.refused, r.row.refused) : refused(v.refused, 20, 0, 2, 0, 0));
     CHECK(memcmp(buffer, gathered, ROOM) == 0);
     if (shorgavel_row_in(db, length, page, cell, table, 0).refused.number != 18) row_is_plain(reading, 2, cell);
 }

@@ -41,6 +41,12 @@ pub enum Reason {
     TableTooShort,
     NoSuchCell,
     NoSuchColumn,
+    // Of a walk through a table: a page of an index.
+    IndexPage,
+    // Over 20 pages below one another.
+    TooDeep,
+    // One more page is due than the file has.
+    VisitsUsedUp,
 }
 
 // What a run of checks comes to.
@@ -64,6 +70,8 @@ pub enum Fault {
     ValueUnfit { column: usize },
     ClosingCut,
     Marked(Mark),
+    // Of a walk through a table: a row number or a key that does not rise, or is not between those around it.
+    OutOfOrder,
 }
 
 // Why the old reading need not show what the file reading shows of a record.
@@ -83,6 +91,7 @@ pub enum Mark {
 // A refusal as it is printed and exported. What does not apply is 0.
 pub struct Numbers {
     pub number: u8,
+    pub page: u32,
     pub cell: usize,
     pub column: usize,
     pub mark: u8,
@@ -92,22 +101,19 @@ pub fn numbers_of(refusal: Refusal) -> Numbers
     ensures { λ r. ⌜ r ≡ numbersOf refusal ⌝ }
 {
     match refusal {
-        Refusal::OfDatabase(flaw) => row_of(flaw_number(flaw), 0, 0, 0),
-        Refusal::OnPage { page: _, reason } => row_of(reason_number(reason), 0, 0, 0),
-        Refusal::InCell {
-            page: _,
-            cell,
-            fault,
-        } => fault_row(cell, fault),
+        Refusal::OfDatabase(flaw) => row_of(flaw_number(flaw), 0, 0, 0, 0),
+        Refusal::OnPage { page, reason } => row_of(reason_number(reason), page, 0, 0, 0),
+        Refusal::InCell { page, cell, fault } => fault_row(page, cell, fault),
     }
 }
 
 // A row of the table.
-fn row_of(number: u8, cell: usize, column: usize, mark: u8) -> Numbers
-    ensures { λ r. ⌜ r ≡ row number cell column mark ⌝ }
+fn row_of(number: u8, page: u32, cell: usize, column: usize, mark: u8) -> Numbers
+    ensures { λ r. ⌜ r ≡ row number page cell column mark ⌝ }
 {
     Numbers {
         number,
+        page,
         cell,
         column,
         mark,
@@ -140,23 +146,27 @@ fn reason_number(reason: Reason) -> u8
         Reason::TableTooShort => 19,
         Reason::NoSuchCell => 20,
         Reason::NoSuchColumn => 20,
+        Reason::IndexPage => 25,
+        Reason::TooDeep => 26,
+        Reason::VisitsUsedUp => 28,
     }
 }
 
-fn fault_row(cell: usize, fault: Fault) -> Numbers
-    ensures { λ r. ⌜ r ≡ faultRow cell fault ⌝ }
+fn fault_row(page: u32, cell: usize, fault: Fault) -> Numbers
+    ensures { λ r. ⌜ r ≡ faultRow page cell fault ⌝ }
 {
     match fault {
-        Fault::PointerOutside => row_of(12, cell, 0, 0),
-        Fault::CellCut => row_of(13, cell, 0, 0),
-        Fault::PayloadSpills => row_of(18, cell, 0, 0),
-        Fault::BufferTooShort => row_of(24, cell, 0, 0),
-        Fault::ChainUnfit => row_of(23, cell, 0, 0),
-        Fault::HeaderUnfit => row_of(14, cell, 0, 0),
-        Fault::TypeReserved { column } => row_of(15, cell, column, 0),
-        Fault::ValueUnfit { column } => row_of(16, cell, column, 0),
-        Fault::ClosingCut => row_of(17, cell, 0, 0),
-        Fault::Marked(mark) => row_of(21, cell, 0, mark_number(mark)),
+        Fault::PointerOutside => row_of(12, page, cell, 0, 0),
+        Fault::CellCut => row_of(13, page, cell, 0, 0),
+        Fault::PayloadSpills => row_of(18, page, cell, 0, 0),
+        Fault::BufferTooShort => row_of(24, page, cell, 0, 0),
+        Fault::ChainUnfit => row_of(23, page, cell, 0, 0),
+        Fault::HeaderUnfit => row_of(14, page, cell, 0, 0),
+        Fault::TypeReserved { column } => row_of(15, page, cell, column, 0),
+        Fault::ValueUnfit { column } => row_of(16, page, cell, column, 0),
+        Fault::ClosingCut => row_of(17, page, cell, 0, 0),
+        Fault::Marked(mark) => row_of(21, page, cell, 0, mark_number(mark)),
+        Fault::OutOfOrder => row_of(27, page, cell, 0, 0),
     }
 }
 

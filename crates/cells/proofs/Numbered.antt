@@ -1,15 +1,13 @@
 -- What callers cite of the numbers alone: they are the cell's, they are refused as the cell is, and by them it is known whether
 -- the cell is refused with 18.
-use Prim.Native.Nat.{ℕ, _<_}
+use Prim.Native.Nat.{ℕ}
 use mathlib.Core.Path.{_≡_, refl, sym, ap, _∙_}
 use mathlib.Core.List.{List}
 use mathlib.Core.Bool.{Bool, true, false}
 use lib.Dec.{ltb}
 use lib.ListN.{length}
 use borrow.Author.Tests.{lt-ltb}
-use Rattle.laws.specs.Pick.{pick}
 use Rattle.laws.proofs.Never.{never}
-use Rattle.reading.specs.declared.Reading.{Reading}
 use Rattle.answers.specs.declared.Fault.{Fault}
 use Rattle.answers.specs.declared.Fault.the-variants as fa
 use Rattle.answers.specs.declared.Reason.the-variants as re
@@ -24,12 +22,12 @@ use Rattle.cell.proofs.Inside as cell
 use Rattle.cell.proofs.Spills.{Over, unnumbered, cell-spills, spills-cell}
 use Rattle.place.specs.Place.{pageAt}
 use Rattle.page.specs.declared.Open.{Open}
-use Rattle.page.specs.Open.{onPage, liesIn}
+use Rattle.page.specs.Open.{liesIn}
 use Rattle.page.proofs.Opened.{opened-lies}
 use Rattle.cells.specs.declared.NumberedAnswer.the-variants as na
 use Rattle.cells.specs.Pointers.{pointerAt, outside, partAt, cellAt}
-use Rattle.cells.specs.Located.{Located, inCell, locatedFrom, locatedIn}
-use Rattle.cells.specs.Numbered.{numbersAt, numbersFrom, numbersIn, numberedAnswer}
+use Rattle.cells.specs.Located.{Located, inCell, locatedIn}
+use Rattle.cells.specs.Numbered.{numbersAt, numbersIn, numberedAnswer}
 use Rattle.cells.proofs.Laws.{held}
 
 -- the code's answer is the definition's

@@ -44,6 +44,8 @@ fn show_answer(db: &[u8], asked: Page) {
             let numbers = answers::numbers_of(refusal);
             print::text(b"  refused ");
             print::number(numbers.number as u64);
+            print::text(b", page ");
+            print::number(numbers.page as u64);
             print::text(b"\n");
         }
     }

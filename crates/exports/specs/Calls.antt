@@ -2,6 +2,7 @@
 use Prim.Native.Nat.{ℕ}
 use mathlib.Core.List.{List}
 use lib.Dec.{eqb}
+use lib.IntN.{ℤ}
 use Rattle.laws.specs.Pick.{pick}
 use Rattle.reading.specs.declared.Reading.the-variants.{Old, File}
 use Rattle.answers.specs.declared.Refusal.{Refusal}
@@ -13,6 +14,8 @@ use Rattle.page.specs.declared.OpenAnswer.{OpenAnswer}
 use Rattle.page.specs.Open as page
 use Rattle.page.specs.Open.{openAnswer}
 use Rattle.cells.specs.Located.{locatedOf}
+use Rattle.walk.specs.Counted.{countOf}
+use Rattle.listing.specs.Listed.{listOf, listIn}
 use Rattle.table.specs.declared.Entry.{Entry}
 use Rattle.table.specs.Entry.{entryFor, filled}
 use Rattle.table.specs.Page as table
@@ -27,6 +30,7 @@ use Rattle.usual.specs.declared.RowAnswer.{RowAnswer}
 use Rattle.usual.specs.Usual as usual
 use Rattle.turns.specs.declared.types.Header.{Header}
 use Rattle.turns.specs.declared.types.Pages.{Pages}
+use Rattle.turns.specs.declared.types.Listed.{Listed}
 use Rattle.turns.specs.declared.types.PageHead.{PageHead}
 use Rattle.turns.specs.declared.types.Opened.{Opened}
 use Rattle.turns.specs.declared.types.Opening.{Opening}
@@ -34,7 +38,7 @@ use Rattle.turns.specs.declared.types.Along.{Along}
 use Rattle.turns.specs.declared.types.Cell.{Cell}
 use Rattle.turns.specs.declared.types.Shown.{Shown}
 use Rattle.turns.specs.declared.types.LentValue.{LentValue}
-use Rattle.pages.specs.Pages.{numberOf, readingOf, pageOf, headerBy, pagesBy, headBy, openingBy, openOf}
+use Rattle.pages.specs.Pages.{numberOf, readingOf, pageOf, headerBy, pagesBy, listedBy, headBy, openingBy, openOf}
 use Rattle.turns.specs.Rows.{cursorOf, cellBy}
 use Rattle.turns.specs.Shown.{oldShown, fileShown}
 use Rattle.sources.specs.Lent.{lentShown}
@@ -48,6 +52,20 @@ headerOf reading db = headerBy (header.headerOf (readingOf reading) db)
 
 abbrev pub pagesOf : ℕ → List ℕ → Pages
 pagesOf reading db = pagesBy (shapeAnswer (shapeOf (readingOf reading) db))
+
+-- ALL ROWS OF A TABLE, by its root page
+
+abbrev pub countedRows : ℕ → List ℕ → Listed
+countedRows root db = listedBy (countOf root db)
+
+-- where a list of so many places is lent
+abbrev pub listedRows : ℕ → ℕ → List ℕ → Listed
+listedRows places root db = listedBy (listOf places root db)
+
+abbrev pub rowsOver : ℕ → ℕ → List ℕ → List ℤ → List ℤ
+rowsOver places root db list = listIn (listOf places root db) root db list
+
+-- A PAGE
 
 -- where a table of `room` entries is lent
 abbrev pub headOf : ℕ → ℕ → ℕ → List ℕ → PageHead

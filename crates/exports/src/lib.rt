@@ -14,7 +14,7 @@ ghost use Rattle.pages.specs.Pages.{openOf};
 ghost use Rattle.filled.specs.Run.{filledBy, over};
 ghost use Rattle.filled.specs.Row.{rowBy, rowOver};
 ghost use Rattle.gathered.specs.Rows.{rowLent, tableLent, bufferLent};
-ghost use Rattle.exports.specs.Calls.{headerOf, pagesOf, headOf, entryOf, entriesOver, openingOf, rowIn, oldCell, fileCell, guardedCell, oldRun, fileRun, oldShownOf, fileShownOf, guardedShownOf, fileLentOf, guardedLentOf, cellLent};
+ghost use Rattle.exports.specs.Calls.{headerOf, pagesOf, countedRows, listedRows, rowsOver, headOf, entryOf, entriesOver, openingOf, rowIn, oldCell, fileCell, guardedCell, oldRun, fileRun, oldShownOf, fileShownOf, guardedShownOf, fileLentOf, guardedLentOf, cellLent};
 use columns::Cursor;
 use filled::run;
 use reading::Reading;
@@ -27,6 +27,7 @@ use turns::types::Filled;
 use turns::types::Header;
 use turns::types::LentRow;
 use turns::types::LentValue;
+use turns::types::Listed;
 use turns::types::Opened;
 use turns::types::Opening;
 use turns::types::PageHead;
@@ -82,6 +83,26 @@ pub extern "C" fn shorgavel_entry(db: &[u8], reading: u8, number: u32, i: usize)
     ensures { λ r. ⌜ r ≡ entryOf reading number i (now (db .entry)) ⌝ }
 {
     table::entry_by(db, page::open_page(db, pages::page_of(reading, number)), i)
+}
+
+// ALL ROWS OF A TABLE, by its root page, as the file reading walks along it
+
+// How many there are, once all of the table is checked.
+#[no_mangle]
+pub extern "C" fn shorgavel_table_count(db: &[u8], root: u32) -> Listed
+    ensures { λ r. ⌜ r ≡ countedRows root (now (db .entry)) ⌝ }
+{
+    pages::listed_by(walk::count(db, root))
+}
+
+// The same, and the rows in a list that is lent, three words each: page, cell, row number. A list with fewer places than rows
+// is refused, and nothing is written on a refusal.
+#[no_mangle]
+pub extern "C" fn shorgavel_table_rows(db: &[u8], root: u32, list: &mut [i64]) -> Listed
+    ensures { λ r. ⌜ (r ≡ listedRows (length (now (list .entry)) / 3) root (now (db .entry)))
+        × (now (list .exit) ≡ rowsOver (length (now (list .entry)) / 3) root (now (db .entry)) (now (list .entry))) ⌝ }
+{
+    pages::listed_by(listing::list(db, root, list))
 }
 
 // A PAGE THAT IS OPENED, for its cells one after the other: 2 is guarded, which opens table leaves alone

@@ -1,7 +1,7 @@
 // The lines of the program `rows`: every cell of every table leaf page of a database, in the three readings.
 //
 // A heading, then for each cell three lines: page (from 1), cell, reading, row number and values, or `refused` and the
-// four numbers of the answer. It streams: nothing is kept of a line but a buffer of output, and a row's values are come
+// five numbers of the answer. It streams: nothing is kept of a line but a buffer of output, and a row's values are come
 // by along its cursor. docs/READINGS.md says how values are written.
 //
 // No contract can say what is read or written, and `run` answers nothing: it is proved safe and ending. What is printed is

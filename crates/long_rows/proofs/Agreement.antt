@@ -211,6 +211,7 @@ eighteen (InCell page cell fault) t = by fault t
     by (fa.ValueUnfit column) d = never cc
     by fa.ClosingCut d = never cc
     by (fa.Marked mark) d = never cc
+    by fa.OutOfOrder d = never cc
 
 -- what is gathered was refused with it
 was-refused : (page : Page) (i room : ℕ) (db : List ℕ) {c : Spilled} → lentOf page i room db ≡ shown (gathered c)

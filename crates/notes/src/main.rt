@@ -55,6 +55,8 @@ fn refused(refusal: Refusal) {
     let numbers = answers::numbers_of(refusal);
     print::text(b"refused ");
     print::number(numbers.number as u64);
+    print::text(b", page ");
+    print::number(numbers.page as u64);
     print::text(b", mark ");
     print::number(numbers.mark as u64);
     print::text(b"\n");

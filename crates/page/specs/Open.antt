@@ -1,11 +1,12 @@
 -- A page that is opened: where it lies and its kind, then its cells and where its pointers end. The checks are the rows 8 to
 -- 11 of docs/READINGS.md, behind those of the header, in their order.
-use Prim.Native.Nat.{ℕ, _+_, _≤_}
+use Prim.Native.Nat.{ℕ, _+_}
 use mathlib.Core.List.{List}
 use mathlib.Core.Bool.{Bool, false}
 use lib.Dec.{ltb, leb}
-use lib.ListN.{length}
+use lib.ListN.{length, drop}
 use Rattle.laws.specs.Pick.{pick}
+use Rattle.fields.specs.Fields.{unsigned}
 use Rattle.answers.specs.declared.Flaw.{Flaw}
 use Rattle.answers.specs.declared.Reason.{Reason}
 use Rattle.answers.specs.declared.Reason.the-variants as re
@@ -13,6 +14,7 @@ use Rattle.answers.specs.declared.Refusal.{Refusal}
 use Rattle.answers.specs.declared.Refusal.the-variants.{OfDatabase, OnPage}
 use Rattle.answers.specs.Answer.{Answer, refused, shown, _>>=_}
 use Rattle.kinds.specs.declared.Kind.{Kind}
+use Rattle.kinds.specs.Kind.{interior}
 use Rattle.place.specs.declared.Page.{Page}
 use Rattle.place.specs.declared.Place.{Place}
 use Rattle.place.specs.declared.Place.the-variants.{At, Absent}
@@ -76,6 +78,10 @@ unfoldable pub openOf : Page → List ℕ → Answer Refusal Open
 openOf page db = do
   site ← siteOf page db
   openFrom site db
+
+-- the last child of an interior page, from the bytes of its header on
+abbrev pub rightmostOf : Open → List ℕ → ℕ
+rightmostOf o header = pick (interior (o .kind)) (unsigned 4 (drop 8 header)) 0
 
 -- AS THE CODE HAS IT
 

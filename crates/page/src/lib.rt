@@ -5,10 +5,11 @@
 ghost use mathlib.Core.Path.{_≡_};
 ghost use Rattle.answers.specs.declared.Reason.the-variants as re;
 ghost use Rattle.page.specs.Kinds.{kindOf, kindAt, headSize};
-ghost use Rattle.page.specs.Open.{onPage, siteFrom, siteOf, siteAnswer, openFrom, openOf, openAnswer, liesIn};
+ghost use Rattle.page.specs.Open.{onPage, siteFrom, siteOf, siteAnswer, openFrom, openOf, openAnswer, rightmostOf, liesIn};
 use answers::Reason;
 use answers::Refusal;
 use fields::be_u16;
+use fields::be_u32;
 use kinds::Kind;
 use place::Page;
 use place::Place;
@@ -190,6 +191,17 @@ pub fn open_page(db: &[u8], page: Page) -> OpenAnswer
         SiteAnswer::Refused(refusal) => OpenAnswer::Refused(refusal),
         SiteAnswer::Shown(site) => open_site(db, site),
     }
+}
+
+// The last child of an interior page, from the bytes of its header on.
+pub fn rightmost_of(header: &[u8], opened: Open) -> u32
+    ensures { λ r. ⌜ r ≡ rightmostOf opened (now (header .entry)) ⌝ }
+{
+    let kind = opened.kind;
+    if kind.is_interior() {
+        return be_u32(parts::behind(header, 8));
+    }
+    0
 }
 
 // Whether an opened page lies in so many bytes, and its pointers before its end. By differences: any numbers may be given.

@@ -52,23 +52,27 @@ reason-not re.PointersPassEnd e = omega arith
 reason-not re.TableTooShort e = omega arith
 reason-not re.NoSuchCell e = omega arith
 reason-not re.NoSuchColumn e = omega arith
+reason-not re.IndexPage e = omega arith
+reason-not re.TooDeep e = omega arith
+reason-not re.VisitsUsedUp e = omega arith
 
-fault-not : (cell : ℕ) (fault : Fault) → faultRow cell fault .number ≡ 0 → ⊥
-fault-not cell fa.PointerOutside e = omega arith
-fault-not cell fa.CellCut e = omega arith
-fault-not cell fa.PayloadSpills e = omega arith
-fault-not cell fa.BufferTooShort e = omega arith
-fault-not cell fa.ChainUnfit e = omega arith
-fault-not cell fa.HeaderUnfit e = omega arith
-fault-not cell (fa.TypeReserved column) e = omega arith
-fault-not cell (fa.ValueUnfit column) e = omega arith
-fault-not cell fa.ClosingCut e = omega arith
-fault-not cell (fa.Marked mark) e = omega arith
+fault-not : (page cell : ℕ) (fault : Fault) → faultRow page cell fault .number ≡ 0 → ⊥
+fault-not page cell fa.PointerOutside e = omega arith
+fault-not page cell fa.CellCut e = omega arith
+fault-not page cell fa.PayloadSpills e = omega arith
+fault-not page cell fa.BufferTooShort e = omega arith
+fault-not page cell fa.ChainUnfit e = omega arith
+fault-not page cell fa.HeaderUnfit e = omega arith
+fault-not page cell (fa.TypeReserved column) e = omega arith
+fault-not page cell (fa.ValueUnfit column) e = omega arith
+fault-not page cell fa.ClosingCut e = omega arith
+fault-not page cell (fa.Marked mark) e = omega arith
+fault-not page cell fa.OutOfOrder e = omega arith
 
 refused-not : (refusal : Refusal) → numbersOf refusal .number ≡ 0 → ⊥
 refused-not (OfDatabase flaw) e = flaw-not flaw e
 refused-not (OnPage page reason) e = reason-not reason e
-refused-not (InCell page cell fault) e = fault-not cell fault e
+refused-not (InCell page cell fault) e = fault-not page cell fault e
 
 -- the page behind an opening is the one that is handed back, in its reading
 pub record Behind (n : ℕ) (answer : Answer Refusal Open) (o : Opened) : Type 0 where

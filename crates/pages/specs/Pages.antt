@@ -22,6 +22,9 @@ use Rattle.table.specs.declared.PageAnswer.{PageAnswer}
 use Rattle.table.specs.declared.PageAnswer.the-variants as pa
 use Rattle.turns.specs.declared.types.Header.{Header}
 use Rattle.turns.specs.declared.types.Pages.{Pages}
+use Rattle.turns.specs.declared.types.Listed.{Listed}
+use Rattle.walk.specs.declared.CountAnswer.{CountAnswer}
+use Rattle.walk.specs.declared.CountAnswer.the-variants as co
 use Rattle.turns.specs.declared.types.PageHead.{PageHead}
 use Rattle.turns.specs.declared.types.Opened.{Opened}
 use Rattle.turns.specs.declared.types.Opening.{Opening}
@@ -75,6 +78,11 @@ headerBy (ha.Shown fields) = record { refused = accepted; fields = fields }
 abbrev pub pagesBy : ShapeAnswer → Pages
 pagesBy (sh.Refused flaw) = record { refused = refusedBy (OfDatabase flaw); count = 0; present = 0 }
 pagesBy (sh.Shown shape) = record { refused = accepted; count = shape .pages; present = shape .present }
+
+-- the rows of a table
+abbrev pub listedBy : CountAnswer → Listed
+listedBy (co.Refused refusal) = record { refused = refusedBy refusal; count = 0 }
+listedBy (co.Shown n) = record { refused = accepted; count = n }
 
 -- THE HEAD OF A PAGE
 

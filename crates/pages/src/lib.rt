@@ -1,7 +1,8 @@
-// The database and its pages by numbers: the header, the head of a page, and a page that is opened, there and back.
+// The database and its pages by numbers: the header, the rows of a table, the head of a page, and a page that is opened, there
+// and back.
 ghost use mathlib.Core.Path.{_≡_};
 ghost use lib.Dec.{eqb};
-ghost use Rattle.pages.specs.Pages.{numberOf, readingOf, pageOf, noFields, headerBy, pagesBy, noHead, headBy, kindBy, unopened, openedOf, openingBy, openOf};
+ghost use Rattle.pages.specs.Pages.{numberOf, readingOf, pageOf, noFields, headerBy, pagesBy, listedBy, noHead, headBy, kindBy, unopened, openedOf, openingBy, openOf};
 use answers::Refusal;
 use header::HeaderAnswer;
 use kinds::Kind;
@@ -15,10 +16,12 @@ use table::PageAnswer;
 use turns::refusals::no_refusal;
 use turns::refusals::refused_by;
 use turns::types::Header;
+use turns::types::Listed;
 use turns::types::Opened;
 use turns::types::Opening;
 use turns::types::PageHead;
 use turns::types::Pages;
+use walk::CountAnswer;
 
 // READINGS
 
@@ -123,6 +126,21 @@ pub fn pages_by(answer: ShapeAnswer) -> Pages
             refused: no_refusal(),
             count: shape.pages,
             present: shape.present,
+        },
+    }
+}
+
+pub fn listed_by(answer: CountAnswer) -> Listed
+    ensures { λ r. ⌜ r ≡ listedBy answer ⌝ }
+{
+    match answer {
+        CountAnswer::Refused(refusal) => Listed {
+            refused: refused_by(refusal),
+            count: 0,
+        },
+        CountAnswer::Shown(count) => Listed {
+            refused: no_refusal(),
+            count,
         },
     }
 }

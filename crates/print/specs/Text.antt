@@ -25,8 +25,8 @@ signedOf (negsuc n) = 0x2d ∷ decimalOf (suc n)
 abbrev pub fieldOf : ℕ → List ℕ
 fieldOf n = 0x20 ∷ decimalOf n
 
--- ` refused`, the four numbers, and the line's end
+-- ` refused`, the five numbers, and the line's end
 abbrev pub refusedOf : Numbers → List ℕ
 refusedOf r =
     (0x20 ∷ 0x72 ∷ 0x65 ∷ 0x66 ∷ 0x75 ∷ 0x73 ∷ 0x65 ∷ 0x64 ∷ [])
-    ++ fieldOf (r .number) ++ fieldOf (r .cell) ++ fieldOf (r .column) ++ fieldOf (r .mark) ++ 0x0a ∷ []
+    ++ fieldOf (r .number) ++ fieldOf (r .page) ++ fieldOf (r .cell) ++ fieldOf (r .column) ++ fieldOf (r .mark) ++ 0x0a ∷ []

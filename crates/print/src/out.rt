@@ -115,6 +115,7 @@ pub fn refused(out: &mut [u8], at: usize, numbers: Numbers) -> usize
 {
     let n = text(out, at, b" refused");
     let n = field_u8(out, n, numbers.number);
+    let n = field_u32(out, n, numbers.page);
     let n = field(out, n, numbers.cell as u64);
     let n = field(out, n, numbers.column as u64);
     let n = field_u8(out, n, numbers.mark);

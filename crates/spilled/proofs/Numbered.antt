@@ -63,6 +63,7 @@ not-spilling {x} none (InCell page cell fault) e = by fault e
     by (fa.ValueUnfit column) d = refl
     by fa.ClosingCut d = refl
     by (fa.Marked mark) d = refl
+    by fa.OutOfOrder d = refl
 
 module _ (o : Open) (i room : ℕ) (db b : List ℕ) where
   -- ON ITS PAGE

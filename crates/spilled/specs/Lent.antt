@@ -62,6 +62,7 @@ spillsAs (fa.TypeReserved column) = false
 spillsAs (fa.ValueUnfit column) = false
 spillsAs fa.ClosingCut = false
 spillsAs (fa.Marked mark) = false
+spillsAs fa.OutOfOrder = false
 
 abbrev pub spills : Refusal → Bool
 spills (OfDatabase flaw) = false

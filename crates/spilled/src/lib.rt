@@ -61,6 +61,7 @@ fn spills_as(fault: Fault) -> bool
         Fault::ValueUnfit { column: _ } => false,
         Fault::ClosingCut => false,
         Fault::Marked(_) => false,
+        Fault::OutOfOrder => false,
     }
 }
 

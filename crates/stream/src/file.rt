@@ -1,5 +1,5 @@
 // What the file reading shows of the rows of a database: a line for each cell of each table leaf page, which has page,
-// cell, row number and values, or `refused` and the four numbers.
+// cell, row number and values, or `refused` and the five numbers.
 use crate::pages::pages;
 use crate::telling::Telling;
 use answers::Refusal;

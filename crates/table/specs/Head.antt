@@ -6,16 +6,14 @@ use lib.Dec.{eqb}
 use lib.ListN.{drop, getD}
 use Rattle.laws.specs.Pick.{pick}
 use Rattle.fields.specs.Fields.{unsigned}
-use Rattle.kinds.specs.Kind.{kindByte, interior}
+use Rattle.kinds.specs.Kind.{kindByte}
 use Rattle.page.specs.declared.Open.{Open}
+use Rattle.page.specs.Open.{rightmostOf}
 use Rattle.table.specs.declared.Head.{Head}
 
 -- the start of the cell content area: 0 means 65,536
 abbrev pub contentStart : ℕ → ℕ
 contentStart n = pick (eqb n 0) 65536 n
-
-abbrev pub rightmostOf : Open → List ℕ → ℕ
-rightmostOf o header = pick (interior (o .kind)) (unsigned 4 (drop 8 header)) 0
 
 -- from the bytes of the page's header on
 unfoldable pub headOf : Open → List ℕ → Head

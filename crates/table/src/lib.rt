@@ -6,7 +6,7 @@ ghost use mathlib.Core.Path.{_≡_};
 ghost use lib.ListN.{getD, length};
 ghost use Rattle.answers.specs.declared.Reason.{Reason};
 ghost use Rattle.page.specs.Open.{onPage};
-ghost use Rattle.table.specs.Head.{contentStart, rightmostOf, headOf};
+ghost use Rattle.table.specs.Head.{contentStart, headOf};
 ghost use Rattle.table.specs.Entry.{none, entryBy, entryFor};
 ghost use Rattle.table.specs.Page.{cellsFrom, pageIn, pageAnswer, pageFor, pageOf, written};
 use answers::Reason;
@@ -14,7 +14,6 @@ use answers::Refusal;
 use cell::Cell;
 use cells::LocatedAnswer;
 use fields::be_u16;
-use fields::be_u32;
 use page::Open;
 use page::OpenAnswer;
 use parts::behind;
@@ -44,17 +43,6 @@ fn content_start(field: u16) -> u32
     if field == 0 { 65536 } else { field as u32 }
 }
 
-// The last child of an interior page.
-fn rightmost_of(header: &[u8], opened: Open) -> u32
-    ensures { λ r. ⌜ r ≡ rightmostOf opened (now (header .entry)) ⌝ }
-{
-    let kind = opened.kind;
-    if kind.is_interior() {
-        return be_u32(behind(header, 8));
-    }
-    0
-}
-
 fn byte_at(s: &[u8], i: usize) -> u32
     ensures { λ r. ⌜ r ≡ getD (now (s .entry)) i 0 ⌝ }
 {
@@ -75,7 +63,7 @@ fn head_of(header: &[u8], opened: Open) -> Head
         cells: opened.cells,
         content_start: content_start(be_u16(behind(header, 5))),
         fragmented: byte_at(header, 7),
-        rightmost: rightmost_of(header, opened),
+        rightmost: page::rightmost_of(header, opened),
     }
 }
 

@@ -5,13 +5,14 @@ use Rattle.turns.specs.declared.types.Refused.{Refused}
 
 -- nothing is refused
 abbrev pub accepted : Refused
-accepted = record { number = 0; mark = 0; cell = 0; column = 0 }
+accepted = record { number = 0; mark = 0; page = 0; cell = 0; column = 0 }
 
 abbrev pub refusedBy : Refusal → Refused
 refusedBy refusal =
     record {
       number = numbersOf refusal .number;
       mark = numbersOf refusal .mark;
+      page = numbersOf refusal .page;
       cell = numbersOf refusal .cell;
       column = numbersOf refusal .column;
     }

@@ -11,6 +11,7 @@ pub fn no_refusal() -> Refused
     Refused {
         number: 0,
         mark: 0,
+        page: 0,
         cell: 0,
         column: 0,
     }
@@ -23,6 +24,7 @@ pub fn refused_by(refusal: Refusal) -> Refused
     Refused {
         number: numbers.number,
         mark: numbers.mark,
+        page: numbers.page,
         cell: numbers.cell,
         column: numbers.column,
     }

@@ -6,6 +6,7 @@ use table::Head;
 pub struct Refused {
     pub number: u8,
     pub mark: u8,
+    pub page: u32,
     pub cell: usize,
     pub column: usize,
 }
@@ -24,6 +25,13 @@ pub struct Pages {
     pub refused: Refused,
     pub count: usize,
     pub present: usize,
+}
+
+// How many rows a table has.
+#[repr(C)]
+pub struct Listed {
+    pub refused: Refused,
+    pub count: usize,
 }
 
 // The head of a page whose cells are all accepted.

@@ -1,5 +1,11 @@
 //! Databases that are worked by hand: that of tests/c/calls.c, a table leaf of two rows, and one with rows that spill.
 
+// Each test file takes what it needs of these.
+#![allow(dead_code)]
+
+pub mod command;
+pub mod trees;
+
 pub fn put(bytes: &mut [u8], at: usize, part: &[u8]) {
     bytes[at..at + part.len()].copy_from_slice(part);
 }

@@ -67,6 +67,12 @@ mark-number-requires c κs = search needs
 row-of-requires-10 : tie.Need-row-of-requires-10
 row-of-requires-10 c κs = search needs
 
+enum-told-8 : tie.Need-enum-told-8
+enum-told-8 c = search needs
+
+row-of-requires-11 : tie.Need-row-of-requires-11
+row-of-requires-11 c κs = search needs
+
 returns : tie.Need-returns
 returns c = rw (c .before .enum-told .given .1) (c .row-of .ensures)
 
@@ -98,6 +104,9 @@ returns-10 : tie.Need-returns-10
 returns-10 c =
     rw (c .before .before .before .fault3 .given .1, sym (c .before .mark-number .ensures)) (c .row-of10 .ensures)
 
+returns-11 : tie.Need-returns-11
+returns-11 c = rw (c .before .enum-told8 .given .1) (c .row-of11 .ensures)
+
 pub fault-row-spec : {M : Type 1} → statement M
 fault-row-spec =
     tie.close
@@ -123,6 +132,8 @@ fault-row-spec =
     enum-known-fault-3
     mark-number-requires
     row-of-requires-10
+    enum-told-8
+    row-of-requires-11
     returns
     returns-2
     returns-3
@@ -132,4 +143,5 @@ fault-row-spec =
     returns-7
     returns-8
     returns-9
-    returns-10)
+    returns-10
+    returns-11)

@@ -3,12 +3,6 @@ use mathlib.Core.Path.{sym}
 use borrow.Author.Needs.{needs}
 use Rattle.answers.proofs.numbers_of.Statement.{statement}
 use Rattle.answers.proofs.numbers_of.Tie as tie
-use Rattle.answers.proofs.numbers_of.Reads as reads
-use Rattle.answers.proofs.numbers_of.Lts as lts
-use Rattle.answers.proofs.fault_row.Reads as fault-row-reads
-use Rattle.answers.proofs.flaw_number.Reads as flaw-number-reads
-use Rattle.answers.proofs.reason_number.Reads as reason-number-reads
-use Rattle.answers.proofs.row_of.Reads as row-of-reads
 
 enum-known-refusal : tie.Need-enum-known-refusal
 enum-known-refusal c = search needs

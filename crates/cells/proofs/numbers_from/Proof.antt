@@ -4,10 +4,7 @@ use mathlib.Core.Path.{_≡_, sym, _∙_}
 use mathlib.Core.Bool.{false}
 use native.Mathlib.Omega.{arith}
 use borrow.Author.Tests.{lt-ltb, le-ltb}
-use lib.ListN.{take, drop}
 use denote.Ref.{now}
-use Rattle.answers.specs.declared.Fault.the-variants as fa
-use Rattle.answers.specs.Answer.{refused, shown}
 use Rattle.cell.specs.Numbers.{numbersOf}
 use Rattle.cell.proofs.Kept.{numbers-kept, numbers-cut}
 use Rattle.cells.specs.Pointers.{outside, partAt}

@@ -1,6 +1,6 @@
 -- No page of no width is filled.
 use Prim.Native.Nat.{_/_}
-use mathlib.Core.Path.{_≡_, sym, _∙_, ap}
+use mathlib.Core.Path.{sym, _∙_, ap}
 use native.Mathlib.Nat.{div-zero}
 use borrow.Author.Needs.{needs}
 use Rattle.kept.proofs.filled.Statement.{statement}

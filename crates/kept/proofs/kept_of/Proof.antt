@@ -3,7 +3,7 @@ use Prim.Native.Nat.{_+_, _-_}
 use mathlib.Core.Path.{_≡_, sym, _∙_}
 use native.Mathlib.Nat.{mod-le}
 use native.Mathlib.Omega.{arith}
-use Rattle.kept.specs.Kept.{leastKept, evenKept}
+use Rattle.kept.specs.Kept.{evenKept}
 use Rattle.kept.proofs.Sizes.{kept-even, kept-least}
 use borrow.Author.Needs.{needs}
 use Rattle.kept.proofs.kept_of.Statement.{statement}

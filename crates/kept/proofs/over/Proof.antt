@@ -1,6 +1,6 @@
 -- Over pages of no width all is.
 use Prim.Native.Nat.{_%_}
-use mathlib.Core.Path.{_≡_, sym, _∙_, ap}
+use mathlib.Core.Path.{sym, _∙_, ap}
 use native.Mathlib.Nat.{mod-zero}
 use borrow.Author.Needs.{needs}
 use Rattle.kept.proofs.over.Statement.{statement}

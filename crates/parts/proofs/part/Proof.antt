@@ -1,7 +1,6 @@
 -- Where fewer bytes are left than are asked for, all of them are taken.
 use Prim.Native.Nat.{_-_, _≤_}
-use mathlib.Core.Path.{_≡_, sym, _∙_}
-use native.Mathlib.Omega.{arith}
+use mathlib.Core.Path.{sym, _∙_}
 use native.Mathlib.Nat.{le-of-lt, sub-zero}
 use lib.ListN.{length, drop}
 use lib.Seq.{take-all}

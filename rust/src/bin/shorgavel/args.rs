@@ -1,6 +1,7 @@
 //! The words of the command.
 
 use crate::failure::Failure;
+use crate::lines::Lines;
 use shorgavel::{Notes, Reading};
 use std::ffi::{OsStr, OsString};
 
@@ -13,12 +14,14 @@ Usage: shorgavel COMMAND FILE
 Commands:
   header FILE    the fields of the database header, in the old and the file reading
   page FILE N    the head of page N and the entries of its cells
+  tables FILE    the tables: a line each with root page, number of rows and name
   rows FILE      every row of every table leaf, in the three readings
-  compare FILE   only the rows in which the readings part, and why
-  sheet FILE     one HTML page for a browser, with the three readings side by side
+  compare FILE   only the rows of tables in which the readings part, and why
+  sheet FILE     one HTML page for a browser, table by table, with the three readings side by side
 
 Options:
   --reading R    old, file or guarded: `rows` shows that reading alone, `page` shows it instead of file
+  --table ROOT   `rows` shows the rows of the table with that root page alone, in the rising order of their numbers
   --notes        `rows` shows long notes too, which spill to overflow pages; `compare` and `sheet` always do
   --parting      `sheet` shows only the rows in which the readings part
   -h, --help     these words
@@ -27,11 +30,17 @@ Options:
 FILE is read whole, up to 1,073,741,824 bytes; - is standard input. All is shown on standard output. Pages count from 1,
 and from 0 in `page` with --reading old; cells and columns count from 0.
 
+`tables` has a line for each table, and below it what there is to say of it, indented. Where its rows cannot be listed, a
+word stands for their number: `refused`, a damaged tree; `keyed`, a table without row numbers; `virtual`, one without pages.
+`compare` and `sheet` go table by table. Pages of no table, which were deleted or are damaged, are told apart and do not count.
+
 Exit status:
-  0  done; for `compare`, no row parts
-  1  the database or the page is refused; for `compare`, a row parts
+  0  done; for `compare`, rows of all tables were compared and none parts
+  1  the database, the page or the table is refused; for `compare`, a row parts or a table is refused
   2  the words of the command are wrong
   3  a file cannot be read or written
+  4  the file is cut: only some of its pages are there, and these were shown (`tables`, `rows`, `compare`, `sheet`)
+  5  for `compare`, there is no row to compare
 ";
 
 /// What is asked for.
@@ -39,7 +48,8 @@ pub enum Order {
     Say(String),
     Header(OsString),
     Page(OsString, u32, Reading),
-    Rows(OsString, Vec<Reading>, Option<Notes>),
+    Tables(OsString),
+    Rows(OsString, Lines),
     Compare(OsString),
     Sheet(OsString, Rows),
 }
@@ -56,6 +66,7 @@ pub enum Rows {
 struct Words {
     plain: Vec<OsString>,
     reading: Option<Reading>,
+    table: Option<u32>,
     notes: bool,
     parting: bool,
 }
@@ -70,6 +81,7 @@ pub fn parse(args: impl Iterator<Item = OsString>) -> Result<Order, Failure> {
             Some("--notes") => words.notes = true,
             Some("--parting") => words.parting = true,
             Some("--reading") => words.reading = Some(reading(args.next())?),
+            Some("--table") => words.table = Some(root(args.next())?),
             Some(option) if option.len() > 1 && option.starts_with('-') => {
                 return Err(wrong(format!("there is no option {option}")));
             }
@@ -89,9 +101,11 @@ fn order(words: Words) -> Result<Order, Failure> {
     let order = match name.as_str() {
         "header" => Order::Header(next("FILE")?),
         "page" => Order::Page(next("FILE")?, number(&next("N")?)?, words.reading.unwrap_or(Reading::File)),
+        "tables" => Order::Tables(next("FILE")?),
         "rows" => {
             let readings = words.reading.map_or(Reading::ALL.to_vec(), |one| vec![one]);
-            Order::Rows(next("FILE")?, readings, words.notes.then(Notes::new))
+            let notes = words.notes.then(Notes::new);
+            Order::Rows(next("FILE")?, Lines { readings, notes, table: words.table })
         }
         "compare" => Order::Compare(next("FILE")?),
         "sheet" => Order::Sheet(next("FILE")?, if words.parting { Rows::Parting } else { Rows::All }),
@@ -102,6 +116,9 @@ fn order(words: Words) -> Result<Order, Failure> {
     }
     if words.reading.is_some() && !matches!(order, Order::Page(..) | Order::Rows(..)) {
         return Err(wrong(format!("{name} takes no --reading")));
+    }
+    if words.table.is_some() && !matches!(order, Order::Rows(..)) {
+        return Err(wrong(format!("{name} takes no --table")));
     }
     if words.notes && !matches!(order, Order::Rows(..)) {
         return Err(wrong(format!("{name} takes no --notes")));
@@ -121,6 +138,11 @@ fn reading(word: Option<OsString>) -> Result<Reading, Failure> {
 fn number(word: &OsStr) -> Result<u32, Failure> {
     let parsed = word.to_str().and_then(|digits| digits.parse().ok());
     parsed.ok_or_else(|| wrong(format!("page: {} is no page number", word.to_string_lossy())))
+}
+
+fn root(word: Option<OsString>) -> Result<u32, Failure> {
+    let parsed = word.as_deref().and_then(OsStr::to_str).and_then(|digits| digits.parse().ok());
+    parsed.ok_or_else(|| wrong("--table takes the number of a root page, as `shorgavel tables` lists it".to_string()))
 }
 
 fn wrong(why: String) -> Failure {

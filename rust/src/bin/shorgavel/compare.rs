@@ -1,36 +1,89 @@
-//! `compare`: only the cells in which the readings part, with the reason in words.
+//! `compare`: only the rows of tables in which the readings part, with the reason in words.
 
 use crate::failure::Failure;
 use crate::input::Database;
-use crate::leaf::{leaves, Count, Lent};
+use crate::leaf::{Count, Leaf, Lent};
 use crate::out::Out;
 use crate::progress::Progress;
 use crate::reason;
-use shorgavel::Reading;
-use std::io::Write;
+use crate::trees::Trees;
+use crate::words;
+use shorgavel::{Gauge, Reading, TextEncoding};
+use std::io::{self, Write};
 
 pub fn show(database: &Database, out: &mut Out) -> Result<(), Failure> {
     let gauge = database.gauge()?;
+    let trees = Trees::of(&gauge)?;
     let encoding = gauge.header(Reading::File)?.db_text_encoding;
-    let mut progress = Progress::new(gauge.pages(Reading::File)?.len());
-    let (mut count, mut lent) = (Count::default(), Lent::default());
-    for leaf in leaves(&gauge)? {
-        progress.reach(leaf.number() as usize);
-        count.leaf(&leaf);
-        for cell in leaf.doubtful() {
-            let trio = leaf.trio(cell, &mut lent);
-            count.doubted(&trio);
-            for line in reason::lines(&trio, encoding) {
-                writeln!(out, "{line}")?;
-            }
-            out.pass()?;
-        }
+    let progress = Progress::new(trees.leaves().count() + trees.loose.len());
+    let mut sides = Sides { gauge, encoding, lent: Lent::default(), progress, done: 0 };
+
+    let count = sides.compare(trees.leaves(), "", out)?;
+    apart(&trees, out)?;
+    let loose = sides.compare(trees.loose.iter().copied(), "of no table: ", out)?;
+    if loose.cells > 0 {
+        let Count { cells, parted, refused } = loose;
+        write!(out, "{cells} cells of no table, deleted or damaged, do not count: ")?;
+        writeln!(out, "{parted} part, {refused} are refused by old and file alike")?;
     }
     let Count { cells, parted, refused } = count;
     writeln!(out, "{cells} cells compared: {parted} part, {refused} are refused by old and file alike")?;
-    if parted == 0 {
-        Ok(())
-    } else {
+    verdict(&count, &trees)
+}
+
+/// What pages are compared with.
+struct Sides<'a> {
+    gauge: Gauge<'a>,
+    encoding: TextEncoding,
+    lent: Lent,
+    progress: Progress,
+    done: usize,
+}
+
+impl Sides<'_> {
+    /// The rows of some pages: each line on one of them starts with the words given.
+    fn compare(&mut self, pages: impl Iterator<Item = u32>, before: &str, out: &mut Out) -> Result<Count, Failure> {
+        let mut count = Count::default();
+        for page in pages {
+            self.done += 1;
+            self.progress.reach(self.done);
+            let leaf = Leaf::open(&self.gauge, page)?;
+            count.leaf(&leaf, &mut self.lent, |trio| {
+                for line in reason::lines(trio, self.encoding) {
+                    out.text(before.as_bytes());
+                    out.text(line.as_bytes());
+                    out.text(b"\n");
+                }
+            });
+            out.pass()?;
+        }
+        Ok(count)
+    }
+}
+
+/// The tables that are not compared, and the rows of the schema that may name others.
+fn apart(trees: &Trees, out: &mut Out) -> io::Result<()> {
+    for tree in &trees.tables {
+        if let Err(why) = &tree.leaves {
+            writeln!(out, "table {} is not compared: {}", words::plain(&tree.named.name), why.words())?;
+        }
+    }
+    match trees.unread.as_slice() {
+        [] => Ok(()),
+        [one] => writeln!(out, "{}", words::unread(one)),
+        [first, more @ ..] => writeln!(out, "{} (and {} more rows)", words::unread(first), more.len()),
+    }
+}
+
+/// Content is who has compared something, and all that there is.
+fn verdict(count: &Count, trees: &Trees) -> Result<(), Failure> {
+    if count.parted > 0 {
         Err(Failure::Parted)
+    } else if trees.is_partial() {
+        Err(Failure::Uncompared)
+    } else if count.cells == 0 {
+        Err(Failure::Nothing)
+    } else {
+        Ok(())
     }
 }

@@ -1,46 +1,65 @@
 //! Why the command ends before it is done, or not well, and with which status.
 
-use shorgavel::Refusal;
+use shorgavel::{PageCount, Refusal};
 use std::io::{self, ErrorKind};
 use std::process::ExitCode;
 
 pub enum Failure {
-    /// The database or a page is refused.
+    /// The database, a page or a table is refused.
     Refused(Refusal),
     /// The readings part: what was to be found out, and told by the status.
     Parted,
+    /// A table was not compared, as the output tells.
+    Uncompared,
     /// The words are wrong.
     Usage(String),
     /// A file cannot be read.
     Unread(String, io::Error),
     /// The output cannot be written.
     Unwritten(io::Error),
+    /// Only a part of the file's pages is there. What there is was shown.
+    Cut(PageCount),
+    /// There was no row to compare.
+    Nothing,
 }
 
 impl Failure {
     /// Says why on standard error, and answers the status.
     pub fn end(self) -> ExitCode {
+        self.say();
+        ExitCode::from(self.status())
+    }
+
+    pub fn say(&self) {
         match self {
-            Failure::Refused(refusal) => {
-                eprintln!("shorgavel: {refusal}");
-                ExitCode::from(1)
+            Failure::Refused(refusal) => eprintln!("shorgavel: {refusal}"),
+            Failure::Parted => {}
+            Failure::Uncompared => eprintln!("shorgavel: not all tables are compared"),
+            Failure::Usage(why) => eprintln!("shorgavel: {why}; `shorgavel --help` has the words"),
+            Failure::Unread(file, error) => eprintln!("shorgavel: {file} cannot be read: {error}"),
+            Failure::Unwritten(_) if self.is_broken_pipe() => {}
+            Failure::Unwritten(error) => eprintln!("shorgavel: the output cannot be written: {error}"),
+            Failure::Cut(PageCount { count, present }) => {
+                eprintln!("shorgavel: the file is cut: {present} of its {count} pages are there");
             }
-            Failure::Parted => ExitCode::from(1),
-            Failure::Usage(why) => {
-                eprintln!("shorgavel: {why}; `shorgavel --help` has the words");
-                ExitCode::from(2)
-            }
-            Failure::Unread(file, error) => {
-                eprintln!("shorgavel: {file} cannot be read: {error}");
-                ExitCode::from(3)
-            }
-            // Whoever reads has seen enough: `shorgavel rows FILE | head` is no failure.
-            Failure::Unwritten(error) if error.kind() == ErrorKind::BrokenPipe => ExitCode::SUCCESS,
-            Failure::Unwritten(error) => {
-                eprintln!("shorgavel: the output cannot be written: {error}");
-                ExitCode::from(3)
-            }
+            Failure::Nothing => eprintln!("shorgavel: there is no row to compare"),
         }
+    }
+
+    fn status(&self) -> u8 {
+        match self {
+            Failure::Refused(_) | Failure::Parted | Failure::Uncompared => 1,
+            Failure::Usage(_) => 2,
+            Failure::Unwritten(_) if self.is_broken_pipe() => 0,
+            Failure::Unread(..) | Failure::Unwritten(_) => 3,
+            Failure::Cut(_) => 4,
+            Failure::Nothing => 5,
+        }
+    }
+
+    /// Whoever reads has seen enough: `shorgavel rows FILE | head` is no failure.
+    fn is_broken_pipe(&self) -> bool {
+        matches!(self, Failure::Unwritten(error) if error.kind() == ErrorKind::BrokenPipe)
     }
 }
 

@@ -1,29 +1,34 @@
 //! The database that is shown.
 
 use crate::failure::Failure;
-use shorgavel::{Gauge, Refusal};
+use shorgavel::{Gauge, PageCount, Reading, Refusal};
 use std::ffi::OsStr;
-use std::fs::File;
+use std::fs::{self, File};
 use std::io::{self, Read};
-use std::path::Path;
+use std::path::{Path, PathBuf};
 
 pub struct Database {
     pub name: String,
+    /// The name of the log beside it, where there is one with writes in it.
+    pub log: Option<String>,
     bytes: Vec<u8>,
     length: u64,
 }
 
 impl Database {
-    /// Reads a file whole; one that is over the limit by its length is not read.
+    /// Reads a file whole; one that is over the limit by its length is not read. A log beside it is told and not read.
     pub fn read(file: &OsStr) -> Result<Database, Failure> {
         let name = match file.to_str() {
             Some("-") => "standard input".to_string(),
             _ => Path::new(file).file_name().unwrap_or(file).to_string_lossy().into_owned(),
         };
-        match load(file) {
-            Ok((bytes, length)) => Ok(Database { name, bytes, length }),
-            Err(error) => Err(Failure::Unread(file.to_string_lossy().into_owned(), error)),
+        let (bytes, length) =
+            load(file).map_err(|error| Failure::Unread(file.to_string_lossy().into_owned(), error))?;
+        let log = log_of(file);
+        if let Some(log) = &log {
+            eprintln!("shorgavel: the last writes are in {log}, beside the file: they are not read");
         }
+        Ok(Database { name, log, bytes, length })
     }
 
     /// The bytes, if they are not too many.
@@ -31,6 +36,21 @@ impl Database {
         Gauge::within_limit(self.length)?;
         Ok(Gauge::new(&self.bytes))
     }
+
+    /// How many pages there are and are there, where not all are.
+    pub fn cut(&self) -> Option<PageCount> {
+        let pages = self.gauge().and_then(|gauge| gauge.page_count(Reading::File)).ok()?;
+        (pages.present < pages.count).then_some(pages)
+    }
+}
+
+/// SQLite looks for it beside the file itself, wherever a link to it stands.
+fn log_of(file: &OsStr) -> Option<String> {
+    let mut log = fs::canonicalize(file).ok()?.into_os_string();
+    log.push("-wal");
+    let written = fs::metadata(&log).is_ok_and(|data| data.is_file() && data.len() > 0);
+    let name = PathBuf::from(log).file_name()?.to_string_lossy().into_owned();
+    (written && file != "-").then_some(name)
 }
 
 fn load(file: &OsStr) -> io::Result<(Vec<u8>, u64)> {

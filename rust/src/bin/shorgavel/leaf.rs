@@ -38,14 +38,16 @@ pub enum Standing<'t, 'a> {
     FileRefuses(&'t Cell<'a>, Refusal),
 }
 
-/// All table leaves: each reading goes through the same pages.
-pub fn leaves<'a>(gauge: &Gauge<'a>) -> Result<impl Iterator<Item = Leaf<'a>>, Refusal> {
-    let both = gauge.leaves(Reading::Old)?.zip(gauge.leaves(Reading::File)?);
-    let all = both.zip(gauge.leaves(Reading::Guarded)?);
-    Ok(all.map(|((old, file), guarded)| Leaf { old, file, guarded }))
-}
-
 impl<'a> Leaf<'a> {
+    /// A table leaf, which all three readings open.
+    pub fn open(gauge: &Gauge<'a>, number: u32) -> Result<Leaf<'a>, Refusal> {
+        Ok(Leaf {
+            old: gauge.get_page(Reading::Old, number - 1)?,
+            file: gauge.get_page(Reading::File, number)?,
+            guarded: gauge.get_page(Reading::Guarded, number)?,
+        })
+    }
+
     /// The page's number, from 1 on.
     pub fn number(&self) -> u32 {
         self.file.number()
@@ -100,16 +102,22 @@ pub struct Count {
 }
 
 impl Count {
-    /// A leaf's cells are counted; those that part or are refused come one by one.
-    pub fn leaf(&mut self, leaf: &Leaf<'_>) {
-        self.cells += leaf.len();
+    pub fn sum(counts: &[Count]) -> Count {
+        let of = |field: fn(&Count) -> usize| counts.iter().map(field).sum();
+        Count { cells: of(|count| count.cells), parted: of(|count| count.parted), refused: of(|count| count.refused) }
     }
 
-    pub fn doubted(&mut self, trio: &Trio<'_>) {
-        if trio.parts() {
-            self.parted += 1;
-        } else {
-            self.refused += 1;
+    /// A leaf's cells are counted; those that part or are refused come one by one, and `doubted` is shown them.
+    pub fn leaf(&mut self, leaf: &Leaf<'_>, lent: &mut Lent, mut doubted: impl FnMut(&Trio<'_>)) {
+        self.cells += leaf.len();
+        for cell in leaf.doubtful() {
+            let trio = leaf.trio(cell, lent);
+            if trio.parts() {
+                self.parted += 1;
+            } else {
+                self.refused += 1;
+            }
+            doubted(&trio);
         }
     }
 }

@@ -14,12 +14,15 @@ mod page;
 mod progress;
 mod reason;
 mod sheet;
+mod tables;
+mod trees;
 mod words;
 
 use args::Order;
 use failure::Failure;
 use input::Database;
 use out::Out;
+use std::ffi::OsStr;
 use std::process::ExitCode;
 
 fn main() -> ExitCode {
@@ -45,8 +48,24 @@ fn show(order: Order, out: &mut Out) -> Result<(), Failure> {
         }
         Order::Header(file) => header::show(&Database::read(&file)?, out),
         Order::Page(file, number, reading) => page::show(&Database::read(&file)?, number, reading, out),
-        Order::Rows(file, readings, notes) => lines::show(&Database::read(&file)?, &readings, notes, out),
-        Order::Compare(file) => compare::show(&Database::read(&file)?, out),
-        Order::Sheet(file, rows) => sheet::show(&Database::read(&file)?, rows, out),
+        Order::Tables(file) => whole(&file, |database| tables::show(database, out)),
+        Order::Rows(file, lines) => whole(&file, |database| lines::show(database, lines, out)),
+        Order::Compare(file) => whole(&file, |database| compare::show(database, out)),
+        Order::Sheet(file, rows) => whole(&file, |database| sheet::show(database, rows, out)),
+    }
+}
+
+/// Where only a part of the file's pages is there, what is shown is a part, whatever else there was to tell.
+fn whole(file: &OsStr, show: impl FnOnce(&Database) -> Result<(), Failure>) -> Result<(), Failure> {
+    let database = Database::read(file)?;
+    match (show(&database), database.cut()) {
+        (Err(failure @ Failure::Unwritten(_)), _) => Err(failure),
+        (done, None) => done,
+        (done, Some(pages)) => {
+            if let Err(failure) = done {
+                failure.say();
+            }
+            Err(Failure::Cut(pages))
+        }
     }
 }

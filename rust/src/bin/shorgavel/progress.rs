@@ -16,17 +16,21 @@ pub struct Progress {
 }
 
 impl Progress {
-    pub fn new(pages: usize) -> Progress {
+    /// So much is to be done, in pages or rows.
+    pub fn new(total: usize) -> Progress {
         let due = io::stderr().is_terminal().then(|| Instant::now() + FIRST);
-        Progress { due, shown: false, total: pages, done: 0 }
+        Progress { due, shown: false, total, done: 0 }
     }
 
-    /// So many pages are done. It is called for each row, so it is quick where no page is new.
+    /// So much of it is done. It is called for each row, so it is quick where no line is ever shown, and where nothing is
+    /// new.
     #[inline]
-    pub fn reach(&mut self, pages: usize) {
-        if self.done != pages {
-            self.done = pages;
-            self.show();
+    pub fn reach(&mut self, done: usize) {
+        if self.done != done {
+            self.done = done;
+            if self.due.is_some() {
+                self.show();
+            }
         }
     }
 
@@ -41,7 +45,7 @@ impl Progress {
     /// A terminal that takes no line is no reason to stop.
     fn line(&mut self) {
         let percent = 100 * self.done / self.total.max(1);
-        let _ = write!(io::stderr(), "\r{percent:3} % of the pages are done");
+        let _ = write!(io::stderr(), "\r{percent:3} % is done");
         self.shown = true;
     }
 }

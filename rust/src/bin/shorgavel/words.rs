@@ -1,12 +1,16 @@
 //! How values, rows and refusals are put in words for people.
 
-use shorgavel::{Cell, Refusal, TextEncoding, Value};
+use shorgavel::{Cell, Refusal, TextEncoding, Unread, Value};
 use std::fmt::Write;
 
 /// Longer texts, blobs and rows are cut.
 const TEXT: usize = 60;
 const BLOB: usize = 24;
 const ROW: usize = 160;
+
+/// Why the rows of some tables are not listed.
+pub const KEYED: &str = "it has no row numbers: its rows are in an index, and are not listed";
+pub const VIRTUAL: &str = "it is virtual: it has no pages of its own";
 
 /// As SQL has it: `null`, `42`, `1.5`, `'text'`, `x'00ff'`.
 pub fn value(words: &mut String, value: Value<'_>, encoding: TextEncoding) {
@@ -45,6 +49,25 @@ fn text(words: &mut String, characters: &str, bytes: usize) {
     if !rest.as_str().is_empty() {
         push(words, format_args!("… ({bytes} bytes)"));
     }
+}
+
+/// Names and statements, with nothing in them that would steer a terminal.
+pub fn plain(characters: &str) -> String {
+    let mut words = String::with_capacity(characters.len());
+    for character in characters.chars() {
+        match character {
+            '\t' => words.push(' '),
+            _ if hidden(character) => words.extend(character.escape_unicode()),
+            _ => words.push(character),
+        }
+    }
+    words
+}
+
+/// For example `row 3 of the schema, page 1 cell 2, tells nothing: its name is no text`.
+pub fn unread(row: &Unread) -> String {
+    let (place, why) = (row.place, &row.why);
+    format!("row {} of the schema, page {} cell {}, tells nothing: {why}", place.rowid(), place.page(), place.cell())
 }
 
 /// Characters that would steer a terminal or turn the direction of a line.
@@ -117,6 +140,11 @@ mod tests {
     #[test]
     fn nothing_steers_a_terminal() {
         assert_eq!(said(Value::Text("a\x1b[2Jb\u{202e}".as_bytes())), "'a\\u{1b}[2Jb\\u{202e}'");
+    }
+
+    #[test]
+    fn names_steer_no_terminal_either() {
+        assert_eq!(plain("a\tb\x1b[2J\nΩ"), "a b\\u{1b}[2J\\u{a}Ω");
     }
 
     #[test]

@@ -13,6 +13,9 @@ text-requires c κs = search needs
 field-u8-requires : tie.Need-field-u8-requires
 field-u8-requires c κs = search needs
 
+field-u32-requires : tie.Need-field-u32-requires
+field-u32-requires c κs = search needs
+
 field-requires : tie.Need-field-requires
 field-requires c κs = search needs
 
@@ -36,13 +39,15 @@ returns c =
     let mark = c .before .before .before .before .before .before .before in
     let column = mark .before .before .before .before in
     let cell = column .before .before .before .before in
-    let number = cell .before .before .before .before in
+    let page = cell .before .before .before .before in
+    let number = page .before .before .before .before in
     let word = number .before .before .before .before in
     let one = on _ _ _ _ _ (word .text .ensures) (number .field-u8 .ensures) in
-    let two = on _ _ _ _ _ one (cell .field .ensures) in
-    let three = on _ _ _ _ _ two (column .field2 .ensures) in
-    let four = on _ _ _ _ _ three (mark .field-u82 .ensures) in
-    on _ _ _ _ _ four (c .before .before .text2 .ensures)
+    let two = on _ _ _ _ _ one (page .field-u32 .ensures) in
+    let three = on _ _ _ _ _ two (cell .field .ensures) in
+    let four = on _ _ _ _ _ three (column .field2 .ensures) in
+    let five = on _ _ _ _ _ four (mark .field-u82 .ensures) in
+    on _ _ _ _ _ five (c .before .before .text2 .ensures)
 
 pub refused-spec : {M : Type 1} → statement M
 refused-spec =
@@ -51,6 +56,7 @@ refused-spec =
     slice-aggregate-text
     text-requires
     field-u8-requires
+    field-u32-requires
     field-requires
     field-requires-2
     field-u8-requires-2

@@ -1,4 +1,4 @@
-//! A table for each page that has rows, or one for all rows that part.
+//! A table for each page that has rows, or one for the rows that part.
 //!
 //! Where a page's values fit the width of a printed sheet, each column has its own; otherwise a reading's values follow
 //! each other in one, numbered. End tags that HTML does not ask for are left out: they would be half of a large sheet.
@@ -37,26 +37,29 @@ pub fn page(leaf: &Leaf<'_>, lent: &mut Lent, encoding: TextEncoding, out: &mut 
     Ok(())
 }
 
-/// The rows of all pages on which the readings part, in one table.
-pub fn parting<'a>(
-    leaves: impl Iterator<Item = Leaf<'a>>,
-    lent: &mut Lent,
-    encoding: TextEncoding,
-    out: &mut Out,
-) -> io::Result<()> {
-    Form::Flow.head("<b>Rows that part</b> of all pages", &["Page", "Cell", "Row"], out)?;
-    let mut table = Table { out, form: Form::Flow, encoding, words: String::new() };
-    for leaf in leaves {
+/// The rows of some pages on which the readings part, in one table.
+pub struct Parting<'a>(Table<'a>);
+
+impl<'a> Parting<'a> {
+    pub fn begin(encoding: TextEncoding, out: &'a mut Out) -> io::Result<Parting<'a>> {
+        Form::Flow.head("<b>Rows that part</b>", &["Page", "Cell", "Row"], out)?;
+        Ok(Parting(Table { out, form: Form::Flow, encoding, words: String::new() }))
+    }
+
+    pub fn page(&mut self, leaf: &Leaf<'_>, lent: &mut Lent) -> io::Result<()> {
         for cell in leaf.doubtful() {
             let trio = leaf.trio(cell, lent);
             if trio.parts() {
-                table.row(Some(trio.page), &trio);
-                table.out.pass()?;
+                self.0.row(Some(trio.page), &trio);
+                self.0.out.pass()?;
             }
         }
+        Ok(())
     }
-    table.out.text(b"</table>\n");
-    Ok(())
+
+    pub fn end(self) {
+        self.0.out.text(b"</table>\n");
+    }
 }
 
 struct Table<'a> {

@@ -1,8 +1,8 @@
 -- On interior pages it stands behind the rest of the header.
 use mathlib.Core.Path.{sym, _∙_}
 use borrow.Author.Needs.{needs}
-use Rattle.table.proofs.rightmost_of.Statement.{statement}
-use Rattle.table.proofs.rightmost_of.Tie as tie
+use Rattle.page.proofs.rightmost_of.Statement.{statement}
+use Rattle.page.proofs.rightmost_of.Tie as tie
 
 is-interior-requires : tie.Need-is-interior-requires
 is-interior-requires c κs = search needs

@@ -1,0 +1,98 @@
+-- A list into which rows are stored: what it holds, with the rows that are still to come, is what it is to hold.
+use Prim.Native.Nat.{ℕ, suc, _+_, _-_, _*_, _≤_, _<_}
+use mathlib.Core.Path.{_≡_, refl, sym, ap, _∙_}
+use mathlib.Core.List.{List, [], _∷_, _++_}
+use native.Mathlib.Nat.{add-zero, add-suc, suc-add, add-assoc}
+use native.Mathlib.Omega.{arith}
+use lib.IntN.{ℤ}
+use lib.ListN.{length, length-append, set, drop}
+use lib.Seq.{sets, length-sets, sets-eq}
+use Rattle.walk.specs.declared.Table.{Table}
+use Rattle.page.specs.declared.Open.{Open}
+use Rattle.cells.specs.Numbered.{numbersIn}
+use Rattle.walk.specs.Walk.{Row}
+use Rattle.walk.specs.Table.{tableAt, lastChild}
+use Rattle.listing.specs.Rows.{childBy, rowAt, leafRows, childRows, pageRows, allRows}
+use Rattle.listing.specs.Listed.{wordsOf, words}
+
+sets-on : (some more list : List ℤ) (at : ℕ) → sets list at (some ++ more) ≡ sets (sets list at some) (at + length some) more
+sets-on [] more list at = rw add-zero
+sets-on (w ∷ some) more list at = sets-on some more (set list at w) (suc at) ∙ rw (suc-add at (length some), add-suc at (length some))
+
+words-on : (some rest : List Row) → words (some ++ rest) ≡ words some ++ words rest
+words-on [] rest = refl
+words-on (r ∷ some) rest = ap (λ (l : List ℤ). wordsOf (r .page) (r .cell) (r .number) ++ l) (words-on some rest)
+
+-- THE TURNS OF A LOOP that stores `all` into `lent` from `from` on
+
+pub record Held (lent : List ℤ) (from : ℕ) (all : List Row) (list : List ℤ) (next : ℕ) (rest : List Row) : Type 0 where
+  pub long : length list ≡ length lent
+  pub place : next + length (words rest) ≡ from + length (words all)
+  pub is : sets list next (words rest) ≡ sets lent from (words all)
+
+pub held : (lent : List ℤ) (from : ℕ) (all : List Row) → Held lent from all lent from all
+held lent from all = record { long = refl; place = refl; is = refl }
+
+module _ {lent : List ℤ} {from : ℕ} {all : List Row} {list : List ℤ} {next : ℕ} where
+  pub held-on : (some rest : List Row) {list' : List ℤ} {next' : ℕ} → Held lent from all list next (some ++ rest)
+      → next' ≡ next + length (words some) → list' ≡ sets list next (words some) → Held lent from all list' next' rest
+  held-on some rest h n l =
+      let w = words-on some rest in
+      let m = ap length w ∙ length-append (words some) (words rest) in
+      rw (n, l) (record {
+        long = length-sets list next (words some) ∙ h .long;
+        place = add-assoc next (length (words some)) (length (words rest)) ∙ ap (λ (k : ℕ). next + k) (sym m) ∙ h .place;
+        is = sym (sets-on (words some) (words rest) list next) ∙ ap (sets list next) (sym w) ∙ h .is;
+      })
+
+  pub held-last : {rest : List Row} {list' : List ℤ} {r : ℕ} → Held lent from all list next rest
+      → r ≡ next + length (words rest) → list' ≡ sets list next (words rest) → (r ≡ from + length (words all)) × (list' ≡ sets lent from (words all))
+  held-last h n l = (n ∙ h .place, l ∙ h .is)
+
+  -- there is room for what comes
+  pub held-room : (some rest : List Row) → Held lent from all list next (some ++ rest) → from + length (words all) ≤ length lent → next + length (words some) ≤ length list
+  held-room some rest h r = let m = ap length (words-on some rest) ∙ length-append (words some) (words rest) in omega (arith, h .long, h .place)
+
+  pub held-last-room : {rest : List Row} → Held lent from all list next rest → from + length (words all) ≤ length lent → next + length (words rest) ≤ length list
+  held-last-room h r = omega (arith, h .long, h .place)
+
+-- THE ROWS, step by step
+
+module _ (o : Open) (db : List ℕ) (cells i : ℕ) where
+  pub leaf-next : i < cells → leafRows o db (cells - i) i ≡ rowAt o db i ∷ leafRows o db (cells - (i + 1)) (i + 1)
+  unfolding leafRows
+  leaf-next h = let left : cells - i ≡ suc (cells - (i + 1)) = omega arith in rw (left, leafRows)
+
+  pub leaf-none : cells ≤ i → leafRows o db (cells - i) i ≡ []
+  unfolding leafRows
+  leaf-none h = let none : cells - i ≡ 0 = omega arith in rw (none, leafRows)
+
+  pub child-next : (under : ℕ → List Row) → i < cells → childRows under o db (cells - i) i ≡ under (childBy (numbersIn o i db)) ++ childRows under o db (cells - (i + 1)) (i + 1)
+  unfolding childRows
+  child-next under h = let left : cells - i ≡ suc (cells - (i + 1)) = omega arith in rw (left, childRows)
+
+  pub child-last : (under : ℕ → List Row) → cells ≤ i → childRows under o db (cells - i) i ≡ under (lastChild o db)
+  unfolding childRows
+  child-last under h = let none : cells - i ≡ 0 = omega arith in rw (none, childRows)
+
+pub rows-none : (depth : ℕ) (db : List ℕ) (n : ℕ) → depth ≡ 0 → allRows depth db n ≡ []
+unfolding allRows
+rows-none depth db n e = rw (e, allRows)
+
+pub rows-page : (depth : ℕ) (db : List ℕ) (n : ℕ) → (depth ≡ 0 → ⊥) → {t : Table} → tableAt n db ≡ t
+    → allRows depth db n ≡ pageRows (allRows (depth - 1) db) db t
+unfolding allRows
+rows-page depth db n d e =
+    let deep : depth ≡ suc (depth - 1) = omega arith in
+    ap (λ (k : ℕ). allRows k db n) deep ∙ rw (allRows, e)
+
+-- three words a row
+pub words-length : (rows : List Row) → length (words rows) ≡ 3 * length rows
+words-length [] = refl
+words-length (r ∷ rows) = let e = words-length rows in omega arith
+
+-- a list whose first words are stored
+pub stored : (ws list : List ℤ) (n : ℕ) → length ws ≡ n → n ≤ length list → sets list 0 ws ≡ ws ++ drop n list
+stored ws list n e h =
+    let z : 0 + length ws ≡ n = omega arith in
+    sets-eq ws list 0 (omega arith) ∙ rw z

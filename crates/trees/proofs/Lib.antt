@@ -1,0 +1,5 @@
+pub mod Order
+pub mod Places
+pub mod Once
+pub mod Visits
+pub mod Every

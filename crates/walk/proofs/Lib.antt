@@ -1,0 +1,3 @@
+pub mod Placed
+pub mod Pages
+pub mod Steps

@@ -1,0 +1,56 @@
+"""The calls for all rows of a table, asked by oracle/listed.c over the static library.
+
+Standard input: for a database the word 1, its length and its bytes; for a question the word 2, a root page and how many words
+more, or fewer, than the rows take the list has. An answer has the refusal and the count of the counting call and of the
+listing one, whether the list is as it was but for the rows, and the rows, three words each.
+"""
+import array
+import itertools
+import struct
+import subprocess
+from collections import namedtuple
+
+import lent
+
+WORK = lent.ROOT / "target" / "listed"
+# A refusal is number, mark, page, cell and column. `rows` is one array, three words a row.
+Asked = namedtuple("Asked", "root more")
+Answer = namedtuple("Answer", "counted count listed listed_count kept rows")
+WORDS = struct.Struct("<13Q")
+ROW = 3
+
+
+def built():
+    """The command that answers."""
+    WORK.mkdir(parents=True, exist_ok=True)
+    compiler, under = lent.machine()
+    flags = ["-std=c11", "-Wall", "-Wextra", "-Werror", "-O2", "-static", "-I", lent.ROOT / "include"]
+    source = lent.ROOT / "oracle" / "listed.c"
+    subprocess.run([compiler, *flags, "-o", WORK / "listed", source, lent.library()], check=True)
+    return [*under, str(WORK / "listed")]
+
+
+def answers(command, cases):
+    """The answers to the questions of (bytes, questions) pairs, in one run: a list for each pair."""
+    stream = WORK / "asked"
+    with open(stream, "wb") as out:
+        for data, asked in cases:
+            out.write(lent.database(data))
+            out.writelines(struct.pack("<QQq", 2, *one) for one in asked)
+    counts = [len(asked) for _, asked in cases]
+    with open(stream, "rb") as given, subprocess.Popen(command, stdin=given, stdout=subprocess.PIPE) as run:
+        told = [answer(run.stdout) for _ in range(sum(counts))]
+        if run.stdout.read(1):
+            raise OSError("there are more answers than questions")
+    if run.returncode:
+        raise OSError(f"{command[-1]} ended in status {run.returncode}")
+    given = iter(told)
+    return [list(itertools.islice(given, count)) for count in counts]
+
+
+def answer(source):
+    words = WORDS.unpack(lent.taken(source, WORDS.size))
+    written = words[11] if words[6] == 0 else 0
+    rows = array.array("q")
+    rows.frombytes(lent.taken(source, ROW * 8 * written))
+    return Answer(words[0:5], words[5], words[6:11], words[11], words[12], rows)

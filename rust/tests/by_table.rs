@@ -1,0 +1,268 @@
+//! The command `shorgavel` by tables: `tables`, `rows --table`, and how `compare` and `sheet` go table by table. What it says of
+//! files that are cut or have a log beside them.
+
+mod common;
+
+use common::command::{err, fed, out, run, status, Kept};
+use common::trees::{interior, leaf, named, row, schema, two_leaves};
+use common::{long_notes, pages, put, two_rows};
+use std::fs;
+use std::process::Output;
+
+fn lines(output: &Output) -> Vec<&str> {
+    out(output).lines().collect()
+}
+
+#[test]
+fn tables_has_a_line_each() {
+    let output = fed(&["tables", "-"], &two_leaves());
+    let expected = "\
+root rows name
+1 3 sqlite_schema
+2 4 load
+    CREATE TABLE load(idle)
+6 keyed keyed
+  it has no row numbers: its rows are in an index, and are not listed
+    CREATE TABLE keyed(k PRIMARY KEY) WITHOUT ROWID
+- virtual far
+  it is virtual: it has no pages of its own
+    CREATE VIRTUAL TABLE far USING x
+";
+    assert_eq!((out(&output), err(&output), status(&output)), (expected, "", 0));
+}
+
+#[test]
+fn tables_tells_what_is_refused_and_what_tells_nothing() {
+    let mut bytes = two_leaves();
+    schema(&mut bytes, &[("table", "a\x1b[2J", 2, "CREATE\n\tTABLE"), ("tadle", "b", 2, ""), ("table", "c", 3, "")]);
+    interior(&mut bytes, 2, &[(4, 1)], 3);
+    let output = fed(&["tables", "-"], &bytes);
+    let expected = [
+        "root rows name",
+        "1 3 sqlite_schema",
+        "2 refused a\\u{1b}[2J",
+        "  refused 27 (OutOfOrder) on page 4, cell 1: the row number or key is out of order",
+        "    CREATE",
+        "     TABLE",
+        "3 2 c",
+        "- unread -",
+        "  row 2 of the schema, page 1 cell 1, tells nothing: its type is no table, index, view or trigger",
+    ];
+    assert_eq!((lines(&output), status(&output)), (expected.to_vec(), 0));
+    // With no schema there is nothing to list.
+    leaf(&mut bytes, 1, &[row(2, 2), row(1, 1)]);
+    let output = fed(&["tables", "-"], &bytes);
+    assert_eq!((out(&output), status(&output)), ("", 1));
+    let said = "shorgavel: refused 27 (OutOfOrder) on page 1, cell 1: the row number or key is out of order\n";
+    assert_eq!(err(&output), said);
+}
+
+#[test]
+fn rows_of_one_table_come_in_walk_order() {
+    let bytes = two_leaves();
+    let output = fed(&["rows", "-", "--table", "2", "--reading", "file"], &bytes);
+    let expected = "\
+page cell reading rowid values
+4 0 file -5 i:10
+4 1 file 2 i:11
+3 0 file 7 i:12
+3 1 file 9 i:13
+";
+    assert_eq!((out(&output), err(&output), status(&output)), (expected, "", 0));
+    let all = fed(&["rows", "-", "--table", "2"], &bytes);
+    let first = ["4 0 old refused 13 3 0 0 0", "4 0 file -5 i:10", "4 0 guarded refused 21 4 0 0 1", "4 1 old 2 i:11"];
+    assert_eq!((&lines(&all)[1..5], lines(&all).len()), (&first[..], 13));
+    // All leaves, in the order of the file, the deleted one too.
+    let plain = fed(&["rows", "-", "--reading", "file"], &bytes);
+    let places: Vec<_> = lines(&plain)[1..].iter().map(|line| &line[..3]).collect();
+    assert_eq!(places, ["1 0", "1 1", "1 2", "3 0", "3 1", "4 0", "4 1", "5 0"]);
+}
+
+#[test]
+fn rows_of_a_table_show_long_notes() {
+    let bytes = long_notes();
+    let plain = fed(&["rows", "-", "--table", "2"], &bytes);
+    let lent = fed(&["rows", "-", "--table", "2", "--notes"], &bytes);
+    assert_eq!(out(&plain), out(&fed(&["rows", "-"], &bytes)));
+    assert_eq!(out(&lent), out(&fed(&["rows", "-", "--notes"], &bytes)));
+    assert_ne!(out(&plain), out(&lent));
+}
+
+#[test]
+fn rows_of_a_table_that_is_refused() {
+    for (root, line, said) in [
+        ("6", "refused 25 6 0 0 0", "refused 25 (IndexPage) on page 6: the page is of an index"),
+        ("9", "refused 8 9 0 0 0", "refused 8 (PageAbsent) on page 9: the page is not wholly in the bytes"),
+    ] {
+        let output = fed(&["rows", "-", "--table", root], &two_leaves());
+        assert_eq!((lines(&output)[1..].to_vec(), status(&output)), (vec![line], 1));
+        assert_eq!(err(&output), format!("shorgavel: {said}\n"));
+    }
+    let output = fed(&["rows", "-", "--table", "1"], b"");
+    assert_eq!((lines(&output)[1], status(&output)), ("refused 1", 1));
+}
+
+#[test]
+fn compare_goes_by_tables_and_tells_the_rest_apart() {
+    let mut bytes = two_leaves();
+    let output = fed(&["compare", "-"], &bytes);
+    let expected = "\
+page 4 cell 0: a varint of over five bytes: old refuses it (13 CellCut: the cell is cut short), the gauge wrote row -5: 10
+table keyed is not compared: it has no row numbers: its rows are in an index, and are not listed
+table far is not compared: it is virtual: it has no pages of its own
+of no table: page 5 cell 0 column 0: type 9: old shows 0, the gauge wrote 1
+1 cells of no table, deleted or damaged, do not count: 1 part, 0 are refused by old and file alike
+7 cells compared: 1 part, 0 are refused by old and file alike
+";
+    assert_eq!((out(&output), err(&output), status(&output)), (expected, "", 1));
+    // Where no row of a table parts, it is content, whatever stands on deleted pages.
+    leaf(&mut bytes, 4, &[row(1, 10), row(2, 11)]);
+    let output = fed(&["compare", "-"], &bytes);
+    assert!(out(&output).ends_with("\n7 cells compared: 0 part, 0 are refused by old and file alike\n"));
+    assert_eq!((err(&output), status(&output)), ("", 0));
+}
+
+/// A table that is refused is not compared, and then nothing is content.
+#[test]
+fn compare_is_not_content_where_a_table_is_refused() {
+    let mut bytes = two_leaves();
+    leaf(&mut bytes, 4, &[row(1, 10), row(2, 11)]);
+    interior(&mut bytes, 2, &[(4, 1)], 3);
+    let output = fed(&["compare", "-"], &bytes);
+    let refused =
+        "table load is not compared: refused 27 (OutOfOrder) on page 4, cell 1: the row number or key is out of order";
+    assert_eq!(lines(&output)[0], refused);
+    assert!(out(&output).ends_with("\n3 cells compared: 0 part, 0 are refused by old and file alike\n"));
+    assert!(out(&output).contains("\n5 cells of no table, deleted or damaged, do not count: 1 part, "));
+    assert_eq!((err(&output), status(&output)), ("shorgavel: not all tables are compared\n", 1));
+    // Nor where a row of the schema may name a table to which pages belong.
+    let mut bytes = two_leaves();
+    schema(&mut bytes, &[("tadle", "load", 2, "x")]);
+    let output = fed(&["compare", "-"], &bytes);
+    assert_eq!((err(&output), status(&output)), ("shorgavel: not all tables are compared\n", 1));
+    assert!(out(&output).starts_with("row 1 of the schema, page 1 cell 0, tells nothing: its type is no table"));
+}
+
+/// Two tables with one page: it is of the first, and the other is told.
+#[test]
+fn a_page_is_of_one_table() {
+    let mut bytes = two_leaves();
+    schema(&mut bytes, &[("table", "one", 3, "x"), ("table", "two", 2, "x"), ("table", "own", 1, "x")]);
+    let output = fed(&["compare", "-"], &bytes);
+    assert!(out(&output).contains("table two is not compared: page 3 is of a table before it as well\n"));
+    assert!(out(&output).contains("table own is not compared: page 1 is of a table before it as well\n"));
+    assert!(out(&output).ends_with("\n5 cells compared: 0 part, 0 are refused by old and file alike\n"));
+    assert_eq!(status(&output), 1);
+}
+
+#[test]
+fn nothing_is_agreed_on_over_no_rows() {
+    let output = fed(&["compare", "-"], &pages(2));
+    let nothing = "0 cells compared: 0 part, 0 are refused by old and file alike\n";
+    assert_eq!((out(&output), status(&output)), (nothing, 5));
+    assert_eq!(err(&output), "shorgavel: there is no row to compare\n");
+    let sheet = fed(&["sheet", "-"], &pages(2));
+    assert!(out(&sheet).contains("There is no row of a table to compare.") && !out(&sheet).contains("agree on"));
+    assert_eq!(status(&sheet), 0);
+}
+
+#[test]
+fn sheet_has_a_heading_for_each_table() {
+    let output = fed(&["sheet", "-"], &two_leaves());
+    let page = out(&output);
+    let headings: Vec<_> = page.lines().filter(|line| line.starts_with("<h2>")).collect();
+    let expected = [
+        "<h2>sqlite_schema <small>root page 1, 3 rows</small></h2>",
+        "<h2>load <small>root page 2, 4 rows, <span class=\"d\">1 part</span></small></h2>",
+        "<h2>keyed <small>root page 6</small></h2>",
+        "<h2>far <small>no root page</small></h2>",
+        "<h2>Pages of no table: deleted or damaged <small>1 page, 1 row, <span class=\"d\">1 part</span></small></h2>",
+    ];
+    assert_eq!(headings, expected);
+    assert!(page.contains("<pre>CREATE TABLE load(idle)\n</pre>"));
+    assert!(page.contains("Not compared: it has no row numbers") && page.contains("Not compared: it is virtual"));
+    // Pages come in walk order, and rows of no table do not count.
+    let order: Vec<_> = page.split("<caption><b>Page ").skip(1).map(|part| &part[..1]).collect();
+    assert_eq!(order, ["1", "4", "3", "5"]);
+    assert!(page.contains("The readings part on 1 of 7 rows"));
+    assert!(page.contains("<dt>Rows of no table</dt><dd>1</dd>"));
+    let parting = fed(&["sheet", "-", "--parting"], &two_leaves());
+    assert_eq!(out(&parting).matches("<tr class=p>").count(), 2);
+    assert_eq!(out(&parting).matches("<table").count(), 2);
+}
+
+#[test]
+fn sheet_tells_a_table_that_is_refused() {
+    let mut bytes = two_leaves();
+    leaf(&mut bytes, 4, &[row(1, 10), row(2, 11)]);
+    interior(&mut bytes, 2, &[(4, 1)], 3);
+    let page = fed(&["sheet", "-"], &bytes);
+    let why = "refused 27 (OutOfOrder) on page 4, cell 1: the row number or key is out of order";
+    assert!(out(&page).contains(&format!("<p class=\"note bad\">Not compared: {why}.</p>")));
+    assert!(out(&page).contains("1 table is refused, and not compared."));
+    assert!(out(&page).contains("Old and file agree on all 3 rows of those compared, which are not all."));
+    assert!(out(&page).contains("Pages of no table: deleted or damaged <small>3 pages, 5 rows"));
+}
+
+/// Names and statements are texts like all others.
+#[test]
+fn names_are_no_markup() {
+    let mut bytes = two_leaves();
+    schema(&mut bytes, &[("table", "<b>", 2, "CREATE TABLE <i>(a)")]);
+    let page = fed(&["sheet", "-"], &bytes);
+    assert!(out(&page).contains("<h2>&lt;b&gt; <small>") && out(&page).contains("<pre>CREATE TABLE &lt;i&gt;(a)\n"));
+}
+
+/// The header says nine pages, and the counters are equal.
+#[test]
+fn half_a_file_is_told() {
+    let mut bytes = named(long_notes(), "notes", 2);
+    put(&mut bytes, 28, &[0, 0, 0, 9]);
+    let said = "shorgavel: the file is cut: 8 of its 9 pages are there\n";
+    for words in
+        [&["tables", "-"][..], &["rows", "-"], &["rows", "-", "--table", "2"], &["compare", "-"], &["sheet", "-"]]
+    {
+        let output = fed(words, &bytes);
+        assert_eq!((err(&output), status(&output)), (said, 4), "{words:?}");
+    }
+    assert!(out(&fed(&["sheet", "-"], &bytes)).contains("The file is cut: 8 of its 9 pages are there."));
+    // What is refused besides is told as well.
+    let output = fed(&["rows", "-", "--table", "9"], &bytes);
+    let both = "shorgavel: refused 8 (PageAbsent) on page 9: the page is not wholly in the bytes\n".to_string() + said;
+    assert_eq!((err(&output), status(&output)), (both.as_str(), 4));
+    // Where all agrees that is there, it is not said of all.
+    let mut bytes = two_leaves();
+    leaf(&mut bytes, 4, &[row(1, 10), row(2, 11)]);
+    let whole = "<p class=\"verdict ok\">Old and file agree on all 7 rows.</p>";
+    assert!(out(&fed(&["sheet", "-"], &bytes)).contains(whole));
+    put(&mut bytes, 28, &[0, 0, 0, 7]);
+    let page = fed(&["sheet", "-"], &bytes);
+    let limited =
+        "<p class=\"verdict none\">Old and file agree on all 7 rows of those compared, which are not all.</p>";
+    assert!(out(&page).contains(limited));
+    assert_eq!(status(&fed(&["compare", "-"], &bytes)), 4);
+    // Pages behind the end are no part of the file, and nothing is missing.
+    put(&mut bytes, 28, &[0, 0, 0, 4]);
+    let output = fed(&["compare", "-"], &bytes);
+    assert!(!out(&output).contains("of no table") && !err(&output).contains("cut"));
+}
+
+#[test]
+fn a_log_beside_the_file_is_told() {
+    let file = Kept::new("logged.db", &two_rows());
+    let log = file.0.with_file_name("logged.db-wal");
+    let plain = file.show(&["rows"]);
+    fs::write(&log, b"").unwrap();
+    assert_eq!(file.show(&["rows"]).stderr, plain.stderr);
+    fs::write(&log, b"x").unwrap();
+    let said = "shorgavel: the last writes are in logged.db-wal, beside the file: they are not read\n";
+    for words in [&["header"][..], &["page", "1"], &["tables"], &["rows"], &["compare"], &["sheet"]] {
+        let output = file.show(words);
+        assert!(err(&output).starts_with(said), "{words:?}");
+    }
+    let page = file.show(&["sheet"]);
+    assert!(out(&page).contains("The last writes are in logged.db-wal, beside the file: they are not read."));
+    assert_eq!(out(&file.show(&["rows"])), out(&plain));
+    fs::remove_file(&log).unwrap();
+    assert_eq!(err(&run(&[std::ffi::OsStr::new("rows"), file.0.as_os_str()])), "");
+}
