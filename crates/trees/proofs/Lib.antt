@@ -3,3 +3,4 @@ pub mod Places
 pub mod Once
 pub mod Visits
 pub mod Every
+pub mod Leaves

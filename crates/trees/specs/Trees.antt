@@ -2,6 +2,7 @@
 use Prim.Native.Nat.{ℕ, _≤_, _<_}
 use mathlib.Core.Path.{_≡_}
 use mathlib.Core.List.{List, [], _∷_}
+use mathlib.Core.Logic.{_⊎_}
 use lib.IntN.{ℤ, pos}
 use lib.Signed.{_≤ℤ_, _<ℤ_}
 use lib.ListN.{length}
@@ -18,7 +19,7 @@ use Rattle.keys.specs.Key.{keyIn}
 use Rattle.walk.specs.declared.Low.{Low}
 use Rattle.walk.specs.declared.Low.the-variants.{Any, Above}
 use Rattle.walk.specs.declared.CountAnswer.the-variants.{Shown}
-use Rattle.walk.specs.Walk.{Row, rowsOf, pagesOf}
+use Rattle.walk.specs.Walk.{Row, Walk, refused, went, row, page, rowsOf, pagesOf}
 use Rattle.walk.specs.Tree.{tableOf}
 use Rattle.walk.specs.Counted.{countOf}
 use Rattle.listing.specs.Rows.{allRows}
@@ -74,3 +75,24 @@ VisitsEnd = (n : ℕ) (db : List ℕ) (shape : Shape) → shapeOf file db ≡ an
 
 abbrev pub EveryRow : Type 0
 EveryRow = (n : ℕ) (db : List ℕ) (m : ℕ) → countOf n db ≡ Shown m → m < 18446744073709551615 → rowsOf (tableOf n db) ≡ allRows 20 db n
+
+-- THEOREM: of a table that is accepted every cell of every leaf that is visited is listed
+
+-- a walk that is not refused
+abbrev pub Accepted : {A : Type 0} → Walk A → Type 0
+Accepted (refused r) = ⊥
+Accepted (went a) = Unit
+Accepted (row r w) = Accepted w
+Accepted (page n w) = Accepted w
+
+abbrev pub Visited : ℕ → List ℕ → Type 0
+Visited n [] = ⊥
+Visited n (p ∷ pages) = (p ≡ n) ⊎ Visited n pages
+
+abbrev pub Listed : ℕ → ℕ → List Row → Type 0
+Listed n i [] = ⊥
+Listed n i (r ∷ rows) = ((r .page ≡ n) × (r .cell ≡ i)) ⊎ Listed n i rows
+
+abbrev pub EveryCell : Type 0
+EveryCell = (n : ℕ) (db : List ℕ) → Accepted (tableOf n db) → (p : ℕ) → Visited p (pagesOf (tableOf n db))
+    → (o : Open) → openOf (filePage p) db ≡ an.shown o → o .kind ≡ LeafTable → (i : ℕ) → i < o .cells → Listed p i (rowsOf (tableOf n db))
