@@ -13,9 +13,9 @@ use Rattle.row.specs.declared.CursorAnswer.the-variants as cu
 use Rattle.row.specs.Found.{cursorIn, foundBy}
 use Rattle.row.specs.Row.{cursorBy}
 use Rattle.row.specs.Column.{slotThen}
-use Rattle.row.specs.File as file
+use Rattle.row_values.specs.File as file
 use Rattle.row.proofs.Placed.{placed, column-along}
-use Rattle.row.proofs.Along.{file-from}
+use Rattle.row_values.proofs.Along.{file-from}
 use Rattle.guarded.specs.Guarded.{locatedOf, shownOf}
 use Rattle.guarded.proofs.Along.{file-located}
 use Rattle.guarded.proofs.Calls.{guarded-cursor-located, guarded-shown-located}

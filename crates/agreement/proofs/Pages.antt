@@ -9,9 +9,10 @@ use Rattle.answers.specs.Answer.{shown}
 use Rattle.header.specs.Header.{pageSize}
 use Rattle.header.proofs.Laws.{old-passed}
 use Rattle.place.specs.declared.Page.{Page}
-use Rattle.place.specs.declared.Shape.{Shape}
+use Rattle.shape.specs.declared.Shape.{Shape}
 use Rattle.place.specs.Place.{oldPage, filePage, pageAt}
-use Rattle.place.proofs.Laws.{old-place, shapeIn, shape-passed, shape-shown}
+use Rattle.place.proofs.Laws.{old-place}
+use Rattle.shape.proofs.Laws.{shapeIn, shape-passed, shape-shown}
 use Rattle.page.specs.declared.KindAnswer.the-variants.{Known}
 use Rattle.page.specs.declared.Site.{Site}
 use Rattle.page.specs.declared.Open.{Open}

@@ -13,11 +13,12 @@ use Rattle.columns.specs.declared.Slot.{Slot}
 use Rattle.place.specs.declared.Page.{Page}
 use Rattle.place.specs.Place.{oldPage, filePage}
 use Rattle.cells.specs.Located.{Located, rowNumber, locatedOf}
-use Rattle.row.specs.Row.{countBy, rowBy}
+use Rattle.row_head.specs.Head.{countBy, rowBy}
 use Rattle.row.specs.Column.{slotThen, columnBy}
-use Rattle.row.specs.Old as old-calls
-use Rattle.row.specs.File as file-calls
-use Rattle.row.proofs.Told.{count-located, row-located, old-shown-located, file-shown-located}
+use Rattle.row_values.specs.Old as old-calls
+use Rattle.row_values.specs.File as file-calls
+use Rattle.row_head.proofs.Told.{count-located, row-located}
+use Rattle.row_values.proofs.Told.{old-shown-located, file-shown-located}
 use Rattle.guarded.specs.Guarded as guarded-calls
 use Rattle.guarded.proofs.Calls.{guarded-count-located, guarded-row-located, guarded-shown-located}
 use Rattle.agreement.specs.Shows.{Meaning, oldAnswer, fileAnswer, listed, Row, row, rowFrom, oldShows, fileShows, guardedShows}

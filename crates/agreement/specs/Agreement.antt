@@ -24,7 +24,7 @@ use Rattle.page.specs.Open.{siteOf}
 use Rattle.cells.specs.Located as cells
 use Rattle.cells.specs.Located.{Located}
 use Rattle.row.specs.declared.CursorAnswer.the-variants as cu
-use Rattle.row.specs.File as file
+use Rattle.row_values.specs.File as file
 use Rattle.guarded.specs.Guarded.{locatedIn, cursorOf, shownOf}
 use Rattle.agreement.specs.Shows as means
 use Rattle.agreement.specs.Shows.{Meaning, null, integer, real, text, blob, none, row, oldShows, fileShows, guardedShows}

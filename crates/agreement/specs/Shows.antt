@@ -11,17 +11,17 @@ use Rattle.values.specs.declared.old.Value.the-variants as ol
 use Rattle.values.specs.declared.file.Value as fv
 use Rattle.values.specs.declared.file.Value.the-variants as fi
 use Rattle.place.specs.Place.{oldPage, filePage}
-use Rattle.row.specs.declared.CountAnswer.{CountAnswer}
-use Rattle.row.specs.declared.CountAnswer.the-variants as co
-use Rattle.row.specs.declared.RowNumberAnswer.{RowNumberAnswer}
-use Rattle.row.specs.declared.RowNumberAnswer.the-variants as ro
-use Rattle.row.specs.declared.old.ValueAnswer as oa
-use Rattle.row.specs.declared.old.ValueAnswer.the-variants as old
-use Rattle.row.specs.declared.file.ValueAnswer as fa
-use Rattle.row.specs.declared.file.ValueAnswer.the-variants as file
-use Rattle.row.specs.Row.{countOf, rowOf}
-use Rattle.row.specs.Old as old-calls
-use Rattle.row.specs.File as file-calls
+use Rattle.row_head.specs.declared.CountAnswer.{CountAnswer}
+use Rattle.row_head.specs.declared.CountAnswer.the-variants as co
+use Rattle.row_head.specs.declared.RowNumberAnswer.{RowNumberAnswer}
+use Rattle.row_head.specs.declared.RowNumberAnswer.the-variants as ro
+use Rattle.row_values.specs.declared.old.ValueAnswer as oa
+use Rattle.row_values.specs.declared.old.ValueAnswer.the-variants as old
+use Rattle.row_values.specs.declared.file.ValueAnswer as fa
+use Rattle.row_values.specs.declared.file.ValueAnswer.the-variants as file
+use Rattle.row_head.specs.Head.{countOf, rowOf}
+use Rattle.row_values.specs.Old as old-calls
+use Rattle.row_values.specs.File as file-calls
 use Rattle.guarded.specs.Guarded as guarded-calls
 
 -- what a value says, whatever the width of its integer

@@ -40,7 +40,6 @@ use Rattle.cells.specs.declared.Located as dl
 use Rattle.cells.specs.declared.LocatedAnswer.{LocatedAnswer}
 use Rattle.cells.specs.declared.LocatedAnswer.the-variants as la
 use Rattle.cells.specs.Pointers.{pointerAt, outside, partAt, cellAt, Fitting}
-use Rattle.cells.specs.Agreement.{OpenedFirst}
 use Rattle.cells.specs.Located.{Located, rowNumber, inCell, locatedFrom, locatedIn, locatedOf, locatedAnswer}
 
 -- PARTS
@@ -146,9 +145,6 @@ module _ (page : Page) (i : ℕ) (db : List ℕ) where
   -- it is on the page that was asked for
   pub located-page : {l : Located} → locatedOf page i db ≡ shown l → l .opened .page ≡ page
   located-page e = let s = steps e in rw (held (s .o) i db (s .second) .opened) (open-page page db (s .first))
-
-pub opened-first : OpenedFirst
-opened-first page i db o e = located-open page i db e
 
 -- ANSWERS
 

@@ -1,4 +1,3 @@
 pub mod Pointers
 pub mod Located
 pub mod Numbered
-pub mod Agreement

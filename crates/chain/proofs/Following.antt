@@ -7,7 +7,7 @@ use native.Mathlib.Omega.{arith}
 use lib.ListN.{length, take, drop, length-drop}
 use lib.Seq.{length-take-le, take-nil, take-take}
 use Rattle.fields.specs.Fields.{unsigned}
-use Rattle.place.specs.declared.Shape.{Shape}
+use Rattle.shape.specs.declared.Shape.{Shape}
 use Rattle.place.specs.declared.Place.the-variants.{At, Absent}
 use Rattle.chain.specs.Chain.{chainOf}
 use Rattle.chain.specs.Copied.{Shaped, whole, content, laidAt}

@@ -17,15 +17,14 @@ use Rattle.kinds.specs.declared.Kind.{Kind}
 use Rattle.cell.specs.declared.Numbers.{Numbers}
 use Rattle.cell.specs.declared.Payload.the-variants as pa
 use Rattle.header.proofs.Laws.{passed-usable}
-use Rattle.place.specs.declared.Shape.{Shape}
-use Rattle.place.specs.Shape.{shapeOf}
-use Rattle.place.proofs.Laws.{shape-shown, end-within}
+use Rattle.shape.specs.declared.Shape.{Shape}
+use Rattle.shape.specs.Shape.{shapeOf}
+use Rattle.shape.proofs.Laws.{shape-shown, end-within}
 use Rattle.page.specs.declared.Open.{Open}
 use Rattle.cells.specs.Located.{partIn}
 use Rattle.cells.specs.Numbered.{numbersIn}
 use Rattle.chain.specs.Chain.{payloadOf}
 use Rattle.chain.specs.Copied.{Shaped, whole}
-use Rattle.chain.specs.Length.{AsLongAsSaid}
 use Rattle.chain.specs.Gathered.{Gathered, gatheredWith, gatheredIn, payloadAnswer}
 use Rattle.chain.proofs.Payloads.{kept, chain, joined, payload-short, payload-cut, payload-unfit, payload-joined}
 use Rattle.chain.proofs.Payloads.{joined-length}
@@ -145,5 +144,6 @@ module _ (o : Open) (i room : ℕ) (db : List ℕ) where
   pub gathered-numbers : {g : Gathered} → gatheredIn o i room db ≡ shown g → numbersIn o i db ≡ shown (g .numbers)
   gathered-numbers e = told e .0
 
-pub as-long-as-said : AsLongAsSaid
-as-long-as-said o i room db g e = let t = told o i room db e in (t .1, t .2)
+  pub gathered-length : {g : Gathered} → gatheredIn o i room db ≡ shown g
+      → (g .numbers .size .value ≤ room) × (length (g .payload) ≡ g .numbers .size .value)
+  gathered-length e = let t = told e in (t .1, t .2)

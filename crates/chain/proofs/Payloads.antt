@@ -12,7 +12,7 @@ use Rattle.answers.specs.declared.Fault.{Fault}
 use Rattle.answers.specs.declared.Fault.the-variants as fa
 use Rattle.answers.specs.Answer.{Answer, refused, shown, _>>=_}
 use Rattle.kinds.specs.declared.Kind.{Kind}
-use Rattle.place.specs.declared.Shape.{Shape}
+use Rattle.shape.specs.declared.Shape.{Shape}
 use Rattle.kept.specs.Kept.{keptOf, linksOf}
 use Rattle.chain.specs.Chain.{chainFrom, payloadOf}
 use Rattle.chain.specs.Gathered.{laid}

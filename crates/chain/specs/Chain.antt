@@ -11,7 +11,7 @@ use Rattle.answers.specs.declared.Fault.{Fault}
 use Rattle.answers.specs.declared.Fault.the-variants as fa
 use Rattle.answers.specs.Answer.{Answer, refused, shown, _>>=_}
 use Rattle.kinds.specs.declared.Kind.{Kind}
-use Rattle.place.specs.declared.Shape.{Shape}
+use Rattle.shape.specs.declared.Shape.{Shape}
 use Rattle.place.specs.declared.Place.{Place}
 use Rattle.place.specs.declared.Place.the-variants.{At, Absent}
 use Rattle.place.specs.Place.{filePage, placeOf}

@@ -6,7 +6,7 @@ use mathlib.Core.Bool.{Bool, true, false}
 use lib.ListN.{length, take, drop}
 use Rattle.answers.specs.declared.Fault.{Fault}
 use Rattle.answers.specs.Answer.{Answer, refused, shown}
-use Rattle.place.specs.declared.Shape.{Shape}
+use Rattle.shape.specs.declared.Shape.{Shape}
 
 -- a shape that the file reading shows: an overflow page has room for content
 abbrev pub Shaped : Shape → Type 0

@@ -10,7 +10,7 @@ use Rattle.answers.specs.Answer.{Answer, refused, shown, _>>=_}
 use Rattle.cell.specs.declared.Numbers.{Numbers}
 use Rattle.cell.specs.declared.Payload.{Payload}
 use Rattle.cell.specs.declared.Payload.the-variants as pa
-use Rattle.place.specs.Shape.{shapeOf}
+use Rattle.shape.specs.Shape.{shapeOf}
 use Rattle.page.specs.declared.Open.{Open}
 use Rattle.page.specs.Open.{ofDatabase}
 use Rattle.cells.specs.Located.{inCell, partIn}

@@ -1,4 +1,3 @@
 pub mod Chain
 pub mod Gathered
 pub mod Copied
-pub mod Length

@@ -22,9 +22,9 @@ use page::Open;
 use parts::least;
 use parts::less;
 use place::Place;
-use place::Shape;
-use place::ShapeAnswer;
 use reading::Reading;
+use shape::Shape;
+use shape::ShapeAnswer;
 use varint::Number;
 
 pub enum GatherAnswer {
@@ -150,7 +150,7 @@ pub fn gather_in(
 {
     let page = opened.page;
     let kind = opened.kind;
-    let shaped = place::shape_of(db, Reading::File);
+    let shaped = shape::shape_of(db, Reading::File);
     match shaped {
         ShapeAnswer::Refused(flaw) => GatherAnswer::Refused(Refusal::OfDatabase(flaw)),
         ShapeAnswer::Shown(shape) => {

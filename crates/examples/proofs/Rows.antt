@@ -14,14 +14,14 @@ use Rattle.columns.specs.Columns.{slotIn}
 use Rattle.marks.specs.Marks.{lowest}
 use Rattle.header.specs.Header.{fieldOf, pageSize, usable, checkedOf, sizesOf}
 use Rattle.place.specs.Place.{placeOf}
-use Rattle.place.specs.Shape.{shapeOf}
+use Rattle.shape.specs.Shape.{shapeOf}
 use Rattle.page.specs.Open as po
 use Rattle.cells.specs.Pointers.{cellAt}
 use Rattle.cells.specs.Located as ce
-use Rattle.row.specs.Row as ro
+use Rattle.row_head.specs.Head as ro
 use Rattle.row.specs.Column as rc
-use Rattle.row.specs.Old as rold
-use Rattle.row.specs.File as rfile
+use Rattle.row_values.specs.Old as rold
+use Rattle.row_values.specs.File as rfile
 use Rattle.guarded.specs.Guarded as gu
 use Rattle.agreement.specs.Shows.{oldShows, fileShows, guardedShows}
 use Rattle.examples.specs.Rows.{databaseOf, seenOf, Worked}

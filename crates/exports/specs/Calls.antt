@@ -9,7 +9,7 @@ use Rattle.answers.specs.declared.Refusal.{Refusal}
 use Rattle.answers.specs.Answer.{Answer}
 use Rattle.header.specs.Header as header
 use Rattle.place.specs.Place.{oldPage, filePage}
-use Rattle.place.specs.Shape.{shapeOf, shapeAnswer}
+use Rattle.shape.specs.Shape.{shapeOf, shapeAnswer}
 use Rattle.page.specs.declared.OpenAnswer.{OpenAnswer}
 use Rattle.page.specs.Open as page
 use Rattle.page.specs.Open.{openAnswer}
@@ -20,8 +20,8 @@ use Rattle.table.specs.declared.Entry.{Entry}
 use Rattle.table.specs.Entry.{entryFor, filled}
 use Rattle.table.specs.Page as table
 use Rattle.row.specs.Found.{foundBy}
-use Rattle.row.specs.Old as old
-use Rattle.row.specs.File as file
+use Rattle.row_values.specs.Old as old
+use Rattle.row_values.specs.File as file
 use Rattle.guarded.specs.Guarded as guarded
 use Rattle.spilled.specs.Lent.{Lent}
 use Rattle.spilled.specs.Values as spilled

@@ -49,7 +49,7 @@ pub extern "C" fn shorgavel_header(db: &[u8], reading: u8) -> Header
 pub extern "C" fn shorgavel_pages(db: &[u8], reading: u8) -> Pages
     ensures { λ r. ⌜ r ≡ pagesOf reading (now (db .entry)) ⌝ }
 {
-    pages::pages_by(place::shape_of(db, pages::reading_of(reading)))
+    pages::pages_by(shape::shape_of(db, pages::reading_of(reading)))
 }
 
 // The head of a page, every cell of which is checked. No page has more cells than the room that is named here.
@@ -181,14 +181,14 @@ pub extern "C" fn shorgavel_file_values(db: &[u8], along: Along, table: &mut [i6
 pub extern "C" fn shorgavel_old_value(db: &[u8], number: u32, i: usize, k: usize) -> Shown
     ensures { λ r. ⌜ r ≡ oldShownOf number i k (now (db .entry)) ⌝ }
 {
-    shown::old_shown(row::old::value(db, number, i, k))
+    shown::old_shown(row_values::old::value(db, number, i, k))
 }
 
 #[no_mangle]
 pub extern "C" fn shorgavel_file_value(db: &[u8], number: u32, i: usize, k: usize) -> Shown
     ensures { λ r. ⌜ r ≡ fileShownOf number i k (now (db .entry)) ⌝ }
 {
-    shown::file_shown(row::file::value(db, number, i, k))
+    shown::file_shown(row_values::file::value(db, number, i, k))
 }
 
 #[no_mangle]

@@ -21,17 +21,20 @@ use Rattle.place.specs.declared.Page.{Page}
 use Rattle.place.specs.Place.{oldPage, filePage}
 use Rattle.cells.specs.Located.{Located, locatedOf}
 use Rattle.cells.proofs.Laws.{located-page}
-use Rattle.row.specs.declared.CountAnswer.the-variants as co
+use Rattle.row_head.specs.declared.CountAnswer.the-variants as co
 use Rattle.row.specs.declared.CursorAnswer.the-variants as cu
 use Rattle.row.specs.declared.ColumnAnswer.the-variants as cl
 use Rattle.row.specs.Found.{payloadFrom, cursorIn, foundBy}
-use Rattle.row.specs.Row.{countBy, cursorBy, cursorOf}
+use Rattle.row.specs.Row.{cursorBy, cursorOf}
+use Rattle.row_head.specs.Head.{countBy}
 use Rattle.row.specs.Column.{slotThen, slotOn, columnBy, columnOf}
-use Rattle.row.specs.Old as old
-use Rattle.row.specs.File as file
+use Rattle.row_values.specs.Old as old
+use Rattle.row_values.specs.File as file
 use Rattle.row.proofs.Placed.{placed, column-along}
-use Rattle.row.proofs.Told.{count-located, cursor-located, column-located, old-shown-located, file-shown-located}
-use Rattle.row.proofs.Along.{old-from, file-from}
+use Rattle.row.proofs.Told.{cursor-located, column-located}
+use Rattle.row_head.proofs.Told.{count-located}
+use Rattle.row_values.proofs.Told.{old-shown-located, file-shown-located}
+use Rattle.row_values.proofs.Along.{old-from, file-from}
 use Rattle.extents.specs.Columns.{There, AsManyAsCounted, Extents, NoGap, CursorShows}
 
 -- A CELL THAT IS LOCATED

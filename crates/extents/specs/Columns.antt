@@ -11,14 +11,15 @@ use Rattle.serial.specs.Serial.{widthOf}
 use Rattle.columns.specs.declared.Cursor.{Cursor}
 use Rattle.place.specs.declared.Page.{Page}
 use Rattle.place.specs.Place.{oldPage, filePage}
-use Rattle.row.specs.declared.CountAnswer.the-variants as co
+use Rattle.row_head.specs.declared.CountAnswer.the-variants as co
 use Rattle.row.specs.declared.CursorAnswer.the-variants as cu
 use Rattle.row.specs.declared.ColumnAnswer.{ColumnAnswer}
 use Rattle.row.specs.declared.ColumnAnswer.the-variants as cl
-use Rattle.row.specs.Row.{countOf, cursorOf}
+use Rattle.row.specs.Row.{cursorOf}
+use Rattle.row_head.specs.Head.{countOf}
 use Rattle.row.specs.Column.{columnOf}
-use Rattle.row.specs.Old as old
-use Rattle.row.specs.File as file
+use Rattle.row_values.specs.Old as old
+use Rattle.row_values.specs.File as file
 
 -- a column is shown, with some type at some place
 pub record There (answer : ColumnAnswer) : Type 0 where

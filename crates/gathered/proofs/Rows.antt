@@ -12,7 +12,7 @@ use Rattle.cells.specs.Located.{Located}
 use Rattle.row.specs.declared.FoundCell.{FoundCell}
 use Rattle.row.specs.declared.FoundAnswer.the-variants as fo
 use Rattle.row.specs.Found.{foundBy}
-use Rattle.spilled.specs.declared.Source.the-variants.{Database, Buffer}
+use Rattle.spills.specs.declared.Source.the-variants.{Database, Buffer}
 use Rattle.spilled.specs.declared.LentAnswer.the-variants as le
 use Rattle.spilled.specs.Lent as file
 use Rattle.spilled.specs.Lent.{Lent, whole, gathered, foundOver, foundOn, lentBy}

@@ -17,8 +17,8 @@ use Rattle.turns.specs.declared.types.Row.{Row}
 use Rattle.turns.specs.declared.types.LentRow.{LentRow}
 use Rattle.turns.specs.Rows.{noRow, rowOf}
 use Rattle.sources.specs.Lent.{lentRow}
-use Rattle.spilled.specs.declared.Source.{Source}
-use Rattle.spilled.specs.declared.Source.the-variants.{Database, Buffer}
+use Rattle.spills.specs.declared.Source.{Source}
+use Rattle.spills.specs.declared.Source.the-variants.{Database, Buffer}
 use Rattle.filled.specs.Run.{Run, runFrom, filledBy, over}
 
 -- cell i of an opened page, in the guarded reading or in that of the page, with a buffer of so many bytes

@@ -13,7 +13,7 @@ use row::FoundAnswer;
 use row::FoundCell;
 use sources::lent_row;
 use spilled::LentAnswer;
-use spilled::Source;
+use spills::Source;
 use turns::rows;
 use turns::types::LentRow;
 use varint::Number;

@@ -6,9 +6,10 @@ use Rattle.answers.specs.declared.Refusal.{Refusal}
 use Rattle.answers.specs.Answer.{Answer}
 use Rattle.cells.specs.Located.{Located}
 use Rattle.row.specs.Found.{foundBy}
-use Rattle.row.specs.Row.{countBy, rowBy, cursorBy}
+use Rattle.row.specs.Row.{cursorBy}
+use Rattle.row_head.specs.Head.{countBy, rowBy}
 use Rattle.row.specs.Column.{columnBy}
-use Rattle.row.specs.File.{shownBy}
+use Rattle.row_values.specs.File.{shownBy}
 use Rattle.guarded.specs.Guarded.{locatedOf, countOf, rowOf, cursorOf, shownOf}
 
 module _ (number i : ℕ) (db : List ℕ) {x : Answer Refusal Located} (e : locatedOf number i db ≡ x) where

@@ -20,14 +20,15 @@ use Rattle.page.specs.declared.Open.{Open}
 use Rattle.page.specs.Open.{onPage, siteOf, openFrom}
 use Rattle.cells.specs.Located as cells
 use Rattle.cells.specs.Located.{Located}
-use Rattle.row.specs.declared.CountAnswer.{CountAnswer}
-use Rattle.row.specs.declared.RowNumberAnswer.{RowNumberAnswer}
+use Rattle.row_head.specs.declared.CountAnswer.{CountAnswer}
+use Rattle.row_head.specs.declared.RowNumberAnswer.{RowNumberAnswer}
 use Rattle.row.specs.declared.CursorAnswer.{CursorAnswer}
-use Rattle.row.specs.declared.file.ValueAnswer.{ValueAnswer}
+use Rattle.row_values.specs.declared.file.ValueAnswer.{ValueAnswer}
 use Rattle.row.specs.Found.{foundBy}
-use Rattle.row.specs.Row.{countBy, rowBy, cursorBy}
+use Rattle.row.specs.Row.{cursorBy}
+use Rattle.row_head.specs.Head.{countBy, rowBy}
 use Rattle.row.specs.Column.{columnBy}
-use Rattle.row.specs.File.{shownBy}
+use Rattle.row_values.specs.File.{shownBy}
 
 abbrev pub isLeafTable : Kind → Bool
 isLeafTable InteriorIndex = false

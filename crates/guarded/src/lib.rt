@@ -2,7 +2,7 @@
 //
 // A cell of a table leaf is read as the file reading has it and refused where its record has a mark; the old reading is
 // never run. That it agrees wherever a cell is shown is a theorem: specs/Agreement.antt. Pages count from 1. A cursor goes
-// on with `row::file::next`.
+// on with `row_values::file::next`.
 ghost use mathlib.Core.Path.{_≡_};
 ghost use Prim.Native.Nat.{_≤_};
 ghost use lib.ListN.{length};
@@ -20,12 +20,12 @@ use marks::Marking;
 use page::Open;
 use page::OpenAnswer;
 use page::SiteAnswer;
-use row::CountAnswer;
 use row::CursorAnswer;
 use row::FoundAnswer;
 use row::FoundCell;
-use row::RowNumberAnswer;
-use row::file::ValueAnswer;
+use row_head::CountAnswer;
+use row_head::RowNumberAnswer;
+use row_values::file::ValueAnswer;
 use varint::Number;
 
 fn is_leaf_table(kind: Kind) -> bool
@@ -163,5 +163,5 @@ pub fn cursor(db: &[u8], number: u32, i: usize) -> CursorAnswer
 pub fn value(db: &[u8], number: u32, i: usize, k: usize) -> ValueAnswer
     ensures { λ r. ⌜ r ≡ shownOf number i k (now (db .entry)) ⌝ }
 {
-    row::file::shown(db, row::column_of(db, found(db, number, i), k))
+    row_values::file::shown(db, row::column_of(db, found(db, number, i), k))
 }

@@ -20,7 +20,8 @@ use Rattle.cells.specs.Located.{Located, locatedIn, locatedOf}
 use Rattle.cells.proofs.Laws.{held, located-open, located-unopened}
 use Rattle.guarded.specs.Guarded as guarded
 use Rattle.guarded.proofs.Guard.{guardedBy, leaf-in, site-leaf, leaf-opened, guarded-in, guarded-open}
-use Rattle.spilled.specs.Lent.{Spilled, whole, gathered, spilledIn, spills, instead, lentIn, lentOf}
+use Rattle.spilled.specs.Lent.{Spilled, whole, gathered, spilledIn, instead, lentIn, lentOf}
+use Rattle.spills.specs.Spills.{spills}
 use Rattle.marked.specs.Marked as marked
 use Rattle.judged.specs.Agreement.{AsWithNone, Judged, GuardedRefuses, EveryOpenRefuses, GuardedAgrees}
 use Rattle.spilled.proofs.Got.{spilled-told, lent-instead, lent-whole, lent-refused, lent-open, lent-unopened}

@@ -19,7 +19,8 @@ use Rattle.page.specs.declared.Open.{Open}
 use Rattle.page.specs.Open.{siteOf}
 use Rattle.cells.specs.Located.{Located, locatedOf}
 use Rattle.guarded.specs.Guarded as guarded
-use Rattle.spilled.specs.Lent.{Lent, whole, gathered, spills, lentIn, lentOf}
+use Rattle.spilled.specs.Lent.{Lent, whole, gathered, lentIn, lentOf}
+use Rattle.spills.specs.Spills.{spills}
 use Rattle.marked.specs.Marked as marked
 
 -- a call that is lent a buffer answers what one that is lent none does, but for 18

@@ -11,30 +11,29 @@ mod old;
 use answers::Flaw;
 use answers::Refusal;
 use kinds::Kind;
-use libc::STDIN_FILENO;
 use page::OpenAnswer;
-use place::ShapeAnswer;
 use print::out::field;
 use print::out::field_u8;
 use print::out::flush;
 use print::out::number_u32;
 use print::out::text;
 use reading::Reading;
+use shape::ShapeAnswer;
 
-// Reads a database of at most 65,536 bytes from standard input, and prints its lines.
-pub fn run() {
+// Reads a database of at most 65,536 bytes from a file that is open, and prints its lines.
+pub fn run(fd: i32) {
     let mut buffer = io::large_buffer();
     let mut out = io::large_buffer();
-    let n = io::read_full(STDIN_FILENO, &mut buffer);
+    let n = io::read_full(fd, &mut buffer);
     let at = text(&mut out, 0, b"page cell reading rowid values\n");
-    let at = answer(&buffer, &mut out, at, n);
+    let at = answer(fd, &buffer, &mut out, at, n);
     flush(&out, at);
 }
 
 // A byte more than the buffer takes is over the limit, whatever the bytes are.
-fn answer(buffer: &[u8], out: &mut [u8], at: usize, n: usize) -> usize {
+fn answer(fd: i32, buffer: &[u8], out: &mut [u8], at: usize, n: usize) -> usize {
     let mut more = [0u8; 1];
-    if 0 < io::read_full(STDIN_FILENO, &mut more) {
+    if 0 < io::read_full(fd, &mut more) {
         return refused(out, at, Flaw::OverLimit);
     }
     if buffer.len() < n {
@@ -51,7 +50,7 @@ fn refused(out: &mut [u8], at: usize, flaw: Flaw) -> usize {
 }
 
 fn database(db: &[u8], out: &mut [u8], at: usize) -> usize {
-    let shaped = place::shape_of(db, Reading::File);
+    let shaped = shape::shape_of(db, Reading::File);
     match shaped {
         ShapeAnswer::Refused(flaw) => refused(out, at, flaw),
         ShapeAnswer::Shown(shape) => pages(db, out, at, shape.present),

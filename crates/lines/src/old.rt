@@ -4,7 +4,7 @@ use print::out::field_i64;
 use print::out::refused;
 use print::out::text;
 use row::FoundAnswer;
-use row::old::NextAnswer;
+use row_values::old::NextAnswer;
 use values::file;
 use values::narrow::from_i8;
 use values::narrow::from_i16;
@@ -33,7 +33,7 @@ fn values(db: &[u8], out: &mut [u8], at: usize, first: Cursor, count: usize) -> 
     let mut here = first;
     let mut left = count;
     while 0 < left {
-        let reached = row::old::next(db, here);
+        let reached = row_values::old::next(db, here);
         let NextAnswer::Column { value: v, next } = reached else {
             return n;
         };

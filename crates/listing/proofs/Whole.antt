@@ -15,8 +15,8 @@ use Rattle.answers.specs.declared.Flaw.{Flaw}
 use Rattle.answers.specs.declared.Refusal.{Refusal}
 use Rattle.answers.specs.Answer as an
 use Rattle.cell.specs.declared.Numbers.{Numbers}
-use Rattle.place.specs.declared.Shape.{Shape}
-use Rattle.place.specs.Shape.{shapeOf}
+use Rattle.shape.specs.declared.Shape.{Shape}
+use Rattle.shape.specs.Shape.{shapeOf}
 use Rattle.page.specs.declared.Open.{Open}
 use Rattle.cells.specs.Numbered.{numbersIn}
 use Rattle.keys.specs.Key.{keyOf}

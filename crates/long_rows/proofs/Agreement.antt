@@ -31,13 +31,14 @@ use Rattle.cells.proofs.Laws.{held, located-open}
 use Rattle.row.specs.declared.ColumnAnswer.{ColumnAnswer}
 use Rattle.row.specs.Found.{payloadFrom, cursorIn, foundBy}
 use Rattle.row.specs.Column.{slotThen, columnBy}
-use Rattle.row.specs.File.{shownBy}
+use Rattle.row_values.specs.File.{shownBy}
 use Rattle.row.proofs.Placed.{placed-in, column-along}
 use Rattle.guarded.proofs.Guard.{leaf-opened, guarded-in, guarded-open}
-use Rattle.spilled.specs.declared.Source.the-variants.{Database, Buffer}
+use Rattle.spills.specs.declared.Source.the-variants.{Database, Buffer}
 use Rattle.spilled.specs.declared.ValueAnswer.{ValueAnswer}
 use Rattle.spilled.specs.declared.ValueAnswer.the-variants as an
-use Rattle.spilled.specs.Lent.{Spilled, Lent, whole, gathered, spillsAs, spills, lentOf, cursorOver}
+use Rattle.spilled.specs.Lent.{Spilled, Lent, whole, gathered, lentOf, cursorOver}
+use Rattle.spills.specs.Spills.{spillsAs, spills}
 use Rattle.spilled.specs.Values as file-values
 use Rattle.spilled.specs.Values.{columnIn, from}
 use Rattle.marked.specs.Marked as marked

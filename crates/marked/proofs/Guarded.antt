@@ -11,12 +11,13 @@ use Rattle.page.specs.declared.Open.{Open}
 use Rattle.cells.specs.Located.{Located}
 use Rattle.row.specs.Found.{foundBy}
 use Rattle.row.specs.Column.{columnBy, columnFrom}
-use Rattle.row.specs.File.{shownBy}
+use Rattle.row_values.specs.File.{shownBy}
 use Rattle.row.proofs.Placed.{Placed, placed-in, column-along}
 use Rattle.guarded.specs.Guarded as guarded
 use Rattle.guarded.proofs.Guard.{guarded-in}
-use Rattle.spilled.specs.declared.Source.the-variants.{Database}
-use Rattle.spilled.specs.Lent.{spilledIn, spills, instead}
+use Rattle.spills.specs.declared.Source.the-variants.{Database}
+use Rattle.spilled.specs.Lent.{spilledIn, instead}
+use Rattle.spills.specs.Spills.{spills}
 use Rattle.spilled.specs.Values.{from}
 use Rattle.marked.specs.Marked.{markedBy, markedIn, lentIn, lentOf, valueOf}
 

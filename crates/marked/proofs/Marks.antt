@@ -12,7 +12,7 @@ use Rattle.answers.specs.declared.Refusal.the-variants.{InCell}
 use Rattle.answers.specs.Answer.{Answer, refused, shown}
 use Rattle.record.specs.Record.{typeBytes, valuesAt}
 use Rattle.row.specs.declared.FoundCell.{FoundCell}
-use Rattle.spilled.specs.declared.Source.{Source}
+use Rattle.spills.specs.declared.Source.{Source}
 use Rattle.spilled.specs.declared.LentAnswer.the-variants as le
 use Rattle.spilled.specs.Lent.{Spilled, gatheredBy, foundOver}
 use Rattle.marked.specs.Marked.{orSpilled, markedBy}

@@ -16,9 +16,9 @@ use Rattle.page.specs.declared.Open.{Open}
 use Rattle.cells.specs.Located.{Located}
 use Rattle.chain.specs.Gathered.{gatheredIn}
 use Rattle.row.specs.Column.{columnBy}
-use Rattle.row.specs.File.{shownBy}
+use Rattle.row_values.specs.File.{shownBy}
 use Rattle.guarded.specs.Guarded as guarded
-use Rattle.spilled.specs.declared.Source.the-variants.{Database}
+use Rattle.spills.specs.declared.Source.the-variants.{Database}
 use Rattle.spilled.specs.declared.ValueAnswer.{ValueAnswer}
 use Rattle.spilled.specs.Lent.{Spilled, spilledIn, instead, bufferAfter}
 use Rattle.spilled.specs.Values.{from}

@@ -19,8 +19,8 @@ use reading::Reading;
 use row::FoundAnswer;
 use row::FoundCell;
 use spilled::LentAnswer;
-use spilled::Source;
 use spilled::ValueAnswer;
+use spills::Source;
 use varint::Number;
 
 // The lowest mark of a spilled cell whose payload is `payload`.
@@ -78,7 +78,7 @@ pub fn found_in(db: &[u8], opened: Open, i: usize, buffer: &mut [u8]) -> FoundAn
     match answer {
         FoundAnswer::Shown(_) => answer,
         FoundAnswer::Refused(refusal) => {
-            if spilled::spills_by(refusal) {
+            if spills::spills_by(refusal) {
                 return FoundAnswer::Refused(marked_in(db, opened, i, buffer));
             }
             answer
@@ -105,7 +105,7 @@ pub fn value(db: &[u8], number: u32, i: usize, k: usize, buffer: &mut [u8]) -> V
 {
     let answer = found(db, number, i, buffer);
     spilled::shown_from(
-        row::file::shown(db, row::column_of(db, answer, k)),
+        row_values::file::shown(db, row::column_of(db, answer, k)),
         Source::Database,
     )
 }

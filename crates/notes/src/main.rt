@@ -2,8 +2,8 @@
 // file and the guarded reading. A short one lies on its page, a long one spills, and of the last one the chain is damaged.
 use answers::Refusal;
 use libc::STDIN_FILENO;
-use spilled::Source;
 use spilled::ValueAnswer;
+use spills::Source;
 use values::file::Value;
 
 fn main() {
@@ -35,7 +35,7 @@ fn shown<'a>(db: &'a [u8], gather: &'a [u8], answer: ValueAnswer) {
         ValueAnswer::Shown { value, source } => {
             if let Value::Text { at, len } = value {
                 from(source);
-                print::text(spilled::bytes_of(db, gather, source, at, len));
+                print::text(spills::bytes_of(db, gather, source, at, len));
                 print::text(b"\n");
             } else {
                 print::text(b"no text\n");

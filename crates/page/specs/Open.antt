@@ -18,9 +18,9 @@ use Rattle.kinds.specs.Kind.{interior}
 use Rattle.place.specs.declared.Page.{Page}
 use Rattle.place.specs.declared.Place.{Place}
 use Rattle.place.specs.declared.Place.the-variants.{At, Absent}
-use Rattle.place.specs.declared.Shape.{Shape}
+use Rattle.shape.specs.declared.Shape.{Shape}
 use Rattle.place.specs.Place.{placeOf, pageAt}
-use Rattle.place.specs.Shape.{shapeOf}
+use Rattle.shape.specs.Shape.{shapeOf}
 use Rattle.page.specs.declared.KindAnswer.{KindAnswer}
 use Rattle.page.specs.declared.KindAnswer.the-variants.{Known, Unknown}
 use Rattle.page.specs.declared.Site.{Site}

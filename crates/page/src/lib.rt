@@ -13,9 +13,9 @@ use fields::be_u32;
 use kinds::Kind;
 use place::Page;
 use place::Place;
-use place::Shape;
-use place::ShapeAnswer;
 use reading::Reading;
+use shape::Shape;
+use shape::ShapeAnswer;
 
 pub enum KindAnswer {
     Known(Kind),
@@ -122,7 +122,7 @@ pub fn site_of(db: &[u8], page: Page) -> SiteAnswer
     ensures { λ r. ⌜ r ≡ siteAnswer (siteOf page (now (db .entry))) ⌝ }
 {
     let reading: Reading = page.reading;
-    let shaped = place::shape_of(db, reading);
+    let shaped = shape::shape_of(db, reading);
     match shaped {
         ShapeAnswer::Refused(flaw) => SiteAnswer::Refused(Refusal::OfDatabase(flaw)),
         ShapeAnswer::Shown(shape) => sited(db, page, shape, place::place_of(db.len(), shape, page)),

@@ -12,8 +12,8 @@ use Rattle.kinds.specs.declared.Kind.{Kind}
 use Rattle.kinds.specs.declared.Kind.the-variants.{InteriorIndex, InteriorTable, LeafIndex, LeafTable}
 use Rattle.kinds.specs.Kind.{kindByte}
 use Rattle.place.specs.declared.Page.{Page}
-use Rattle.place.specs.declared.ShapeAnswer.{ShapeAnswer}
-use Rattle.place.specs.declared.ShapeAnswer.the-variants as sh
+use Rattle.shape.specs.declared.ShapeAnswer.{ShapeAnswer}
+use Rattle.shape.specs.declared.ShapeAnswer.the-variants as sh
 use Rattle.page.specs.declared.Open.{Open}
 use Rattle.page.specs.declared.OpenAnswer.{OpenAnswer}
 use Rattle.page.specs.declared.OpenAnswer.the-variants as op

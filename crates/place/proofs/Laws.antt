@@ -1,5 +1,5 @@
--- What callers cite of pages: that one which is there lies in the bytes, and how long it is; and what a shape says.
-use Prim.Native.Nat.{ℕ, suc, min, _+_, _-_, _*_, _^_, _≤_, _<_}
+-- What callers cite of pages: that one which is there lies in the bytes, and how long it is.
+use Prim.Native.Nat.{ℕ, suc, _+_, _-_, _*_, _^_, _≤_, _<_}
 use mathlib.Core.Path.{_≡_, refl, sym}
 use mathlib.Core.List.{List}
 use mathlib.Core.Bool.{Bool, true, false}
@@ -13,22 +13,11 @@ use Rattle.laws.specs.Pick.{pick}
 use Rattle.laws.proofs.Never.{never}
 use Rattle.reading.specs.declared.Reading.{Reading}
 use Rattle.reading.specs.declared.Reading.the-variants.{Old as old, File as file}
-use Rattle.answers.specs.declared.Flaw.{Flaw}
-use Rattle.answers.specs.declared.Checked.the-variants.{Passed}
-use Rattle.answers.specs.Answer.{Answer, refused, shown}
-use Rattle.header.specs.declared.SizesAnswer.{SizesAnswer}
-use Rattle.header.specs.declared.SizesAnswer.the-variants as si
-use Rattle.header.specs.Header.{pageSize, checkedOf, sizesIn, sizesOf}
-use Rattle.header.proofs.Laws.{sizes-shown, sizes-passed, usable-below}
+use Rattle.shape.specs.declared.Shape.{Shape}
 use Rattle.place.specs.declared.Page.{Page}
 use Rattle.place.specs.declared.Place.{Place}
 use Rattle.place.specs.declared.Place.the-variants.{At, Absent}
-use Rattle.place.specs.declared.Shape.{Shape}
-use Rattle.place.specs.declared.ShapeAnswer.the-variants as sh
 use Rattle.place.specs.Place.{oldPage, filePage, headerAt, placeFrom, behindLast, placeBy, placeOf, pageAt}
-use Rattle.place.specs.Shape.{wholePages, shapeWith, shapeBy, shapeOf, shapeAnswer}
-
--- PLACES
 
 -- what is so of a place: the page lies in the bytes, and its header is at its beginning or behind the database's
 abbrev pub Lies : ℕ → ℕ → Place → Type 0
@@ -83,47 +72,3 @@ product-fits {index} {size} h k =
 -- the page of a place is as long as its size
 pub page-length : (at size : ℕ) (db : List ℕ) → at + size ≤ length db → length (pageAt at size db) ≡ size
 page-length at size db h = length-take-le size (drop at db) (rw length-drop (omega arith))
-
--- SHAPES
-
--- the code's answer is the definition's
-pub shape-answered : (x : Answer Flaw Shape) {s : Shape} → shapeAnswer x ≡ sh.Shown s → x ≡ shown s
-shape-answered (refused flaw) e = never cc
-shape-answered (shown t) e = cc
-
-pub shape-unanswered : (x : Answer Flaw Shape) {flaw : Flaw} → shapeAnswer x ≡ sh.Refused flaw → x ≡ refused flaw
-shape-unanswered (refused other) e = cc
-shape-unanswered (shown t) e = never cc
-
-module _ (r : Reading) (db : List ℕ) where
-  abbrev pub shapeIn : Shape
-  shapeIn = shapeWith r (wholePages (length db) (pageSize db)) (sizesIn r db)
-
-  -- where the checks pass
-  pub shape-passed : checkedOf r db ≡ Passed → shapeOf r db ≡ shown shapeIn
-  unfolding shapeOf
-  shape-passed p = rw (sizes-passed r db p)
-
-  pub shape-shown : {s : Shape} → shapeOf r db ≡ shown s → (checkedOf r db ≡ Passed) × (s ≡ shapeIn)
-  unfolding shapeOf
-  shape-shown {s} e = go (sizesOf r db) refl e
-    where
-      go : (x : SizesAnswer) → sizesOf r db ≡ x → shapeBy r (length db) x ≡ shown s → (checkedOf r db ≡ Passed) × (s ≡ shapeIn)
-      go (si.Refused flaw) q d = never cc
-      go (si.Shown sizes) q d =
-          let k = sizes-shown r db sizes q in
-          let i : s ≡ shapeWith r (wholePages (length db) (sizes .«page_size»)) sizes = cc in
-          (k .0, rw (k .1) at i)
-
--- where the cells of a page end is in the page
-pub end-within : (r : Reading) (db : List ℕ) {s : Shape} → shapeOf r db ≡ shown s → s .end ≤ s .«page_size»
-end-within old db e = rw (shape-shown old db e .1) (omega arith)
-end-within file db e = rw (shape-shown file db e .1) (usable-below db)
-
--- how many of the pages that are counted fit in the bytes
-pub shape-present : (r : Reading) (db : List ℕ) {s : Shape} → shapeOf r db ≡ shown s → s .present ≡ min (s .pages) (wholePages (length db) (s .«page_size»))
-shape-present r db e = rw (shape-shown r db e .1) refl
-
--- the old reading counts those that fit
-pub old-pages : (db : List ℕ) {s : Shape} → shapeOf old db ≡ shown s → s .pages ≡ wholePages (length db) (s .«page_size»)
-old-pages db e = rw (shape-shown old db e .1) refl

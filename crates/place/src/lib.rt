@@ -1,37 +1,16 @@
-// The pages of a file: how many there are, where one lies, and which bytes are its. Nothing else counts pages.
+// The pages of a file: where one lies, and which bytes are its.
 //
 // From the file format, 1.2 "Pages", and the Rust's `get_page`. A page is named by its number as a reading counts, the Rust
-// from 0 and the format from 1, and is there if it lies wholly in the bytes. In the file reading a file may have fewer pages
-// than its bytes hold, or more: its header states how many, and old pages behind the last are none of it.
+// from 0 and the format from 1, and is there if it lies wholly in the bytes and is one of those that the file has (`shape`).
 ghost use mathlib.Core.Path.{_≡_};
 ghost use Rattle.place.specs.Place.{oldPage, filePage, headerAt, placeFrom, placeOf, pageAt};
-ghost use Rattle.place.specs.Shape.{wholePages, stated, countOf, shapeOf, shapeAnswer};
-use answers::Flaw;
-use header::Sizes;
-use header::SizesAnswer;
-use parts::least;
 use reading::Reading;
+use shape::Shape;
 
 // A page by its number, as its reading counts.
 pub struct Page {
     pub reading: Reading,
     pub number: u32,
-}
-
-// What the pages of a file have in common.
-pub struct Shape {
-    pub page_size: u32,
-    // Where the cells of a page end: its size, or in the file reading that less the reserved space.
-    pub end: u32,
-    // How many pages there are.
-    pub pages: usize,
-    // How many of them are wholly in the bytes.
-    pub present: usize,
-}
-
-pub enum ShapeAnswer {
-    Shown(Shape),
-    Refused(Flaw),
 }
 
 // Where a page lies in the bytes, and where its header stands in it.
@@ -57,61 +36,6 @@ pub fn file(number: u32) -> Page
     Page {
         reading: Reading::File,
         number,
-    }
-}
-
-// As many as fit in the bytes; of pages with no bytes none is counted.
-fn whole_pages(bytes: usize, size: u32) -> usize
-    ensures { λ r. ⌜ r ≡ wholePages bytes size ⌝ }
-{
-    if size == 0 {
-        return 0;
-    }
-    bytes / (size as usize)
-}
-
-// Whether the size that the header states was written with the last change.
-fn is_stated(sizes: Sizes) -> bool
-    ensures { λ r. ⌜ r ≡ stated sizes ⌝ }
-{
-    if sizes.db_size == 0 {
-        return false;
-    }
-    sizes.file_change_counter == sizes.version_valid_for_no
-}
-
-// How many pages there are, of which so many fit in the bytes.
-fn count_of(reading: Reading, whole: usize, sizes: Sizes) -> usize
-    ensures { λ r. ⌜ r ≡ countOf reading whole sizes ⌝ }
-{
-    match reading {
-        Reading::Old => whole,
-        Reading::File => {
-            if is_stated(sizes) {
-                return sizes.db_size as usize;
-            }
-            whole
-        }
-    }
-}
-
-// The checks of the header, and then the shape of the pages.
-pub fn shape_of(db: &[u8], reading: Reading) -> ShapeAnswer
-    ensures { λ r. ⌜ r ≡ shapeAnswer (shapeOf reading (now (db .entry))) ⌝ }
-{
-    let sized = header::sizes_of(db, reading);
-    match sized {
-        SizesAnswer::Refused(flaw) => ShapeAnswer::Refused(flaw),
-        SizesAnswer::Shown(sizes) => {
-            let whole = whole_pages(db.len(), sizes.page_size);
-            let pages = count_of(reading, whole, sizes);
-            ShapeAnswer::Shown(Shape {
-                page_size: sizes.page_size,
-                end: sizes.end,
-                pages,
-                present: least(pages, whole),
-            })
-        }
     }
 }
 

@@ -1,3 +1,2 @@
 pub mod Placed
 pub mod Told
-pub mod Along

@@ -7,29 +7,16 @@ use Rattle.answers.specs.declared.Refusal.{Refusal}
 use Rattle.answers.specs.Answer.{Answer, refused, shown}
 use Rattle.cell.specs.Cell as cell
 use Rattle.place.specs.declared.Page.{Page}
-use Rattle.place.specs.Place.{oldPage, filePage}
-use Rattle.cells.specs.Located.{Located, rowNumber, locatedOf}
+use Rattle.cells.specs.Located.{Located, locatedOf}
 use Rattle.row.specs.declared.FoundCell.{FoundCell}
 use Rattle.row.specs.declared.FoundAnswer.the-variants as fo
-use Rattle.row.specs.declared.CountAnswer.the-variants as co
-use Rattle.row.specs.declared.RowNumberAnswer.the-variants as ro
 use Rattle.row.specs.Found.{cursorIn, foundBy}
-use Rattle.row.specs.Row.{countBy, countOf, rowBy, rowOf, cursorBy, cursorOf}
+use Rattle.row.specs.Row.{cursorBy, cursorOf}
 use Rattle.row.specs.Column.{columnBy, columnOf}
-use Rattle.row.specs.Old as old
-use Rattle.row.specs.File as file
 
 -- THE CALLS, of a cell that is located or refused
 
 module _ (page : Page) (i : ℕ) (db : List ℕ) {x : Answer Refusal Located} (e : locatedOf page i db ≡ x) where
-  pub count-located : countOf page i db ≡ countBy x
-  unfolding countOf
-  count-located = ap countBy e
-
-  pub row-located : rowOf page i db ≡ rowBy x
-  unfolding rowOf
-  row-located = ap rowBy e
-
   pub cursor-located : cursorOf page i db ≡ cursorBy (foundBy x)
   unfolding cursorOf
   cursor-located = ap (λ (y : Answer Refusal Located). cursorBy (foundBy y)) e
@@ -37,15 +24,6 @@ module _ (page : Page) (i : ℕ) (db : List ℕ) {x : Answer Refusal Located} (e
   pub column-located : (k : ℕ) → columnOf page i k db ≡ columnBy k x
   unfolding columnOf
   column-located k = ap (columnBy k) e
-
-module _ (number i k : ℕ) (db : List ℕ) {x : Answer Refusal Located} where
-  pub old-shown-located : locatedOf (oldPage number) i db ≡ x → old.shownOf number i k db ≡ old.shownBy db (columnBy k x)
-  unfolding old.shownOf
-  old-shown-located e = ap (old.shownBy db) (column-located (oldPage number) i db e k)
-
-  pub file-shown-located : locatedOf (filePage number) i db ≡ x → file.shownOf number i k db ≡ file.shownBy db (columnBy k x)
-  unfolding file.shownOf
-  file-shown-located e = ap (file.shownBy db) (column-located (filePage number) i db e k)
 
 -- A FOUND CELL
 
@@ -65,8 +43,3 @@ told (shown l) e = record { l = l; is = refl; same = cc }
 pub told-refused : (x : Answer Refusal Located) {refusal : Refusal} → foundBy x ≡ fo.Refused refusal → x ≡ refused refusal
 told-refused (refused refusal) e = cc
 told-refused (shown l) e = never cc
-
-pub told-shown : (x : Answer Refusal Located) {f : FoundCell} → foundBy x ≡ fo.Shown f
-    → (countBy x ≡ co.Shown (f .cell .columns)) × (rowBy x ≡ ro.Shown (rowNumber (f .cell .row .value)))
-told-shown (refused refusal) e = never cc
-told-shown (shown l) {f} e = let q : foundCell l ≡ f = cc in (rw (← q), rw (← q))

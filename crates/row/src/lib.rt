@@ -1,14 +1,9 @@
-// One cell of a page by itself: its column count, its row number and its values.
+// One cell of a page by itself: the cell with its cursor, and its columns by type and place.
 //
-// A call makes the header's checks and the page's, then checks the whole record of its cell, and no other cell. A cursor
-// is opened with the same checks, once, and then goes along the columns (`old::next`, `file::next`) with no check made
-// twice; each of its answers is that of `old::value` or `file::value` for the column. On a page that the page call accepts
-// the calls answer what the cell's entry has: a theorem of `table`.
-pub mod file;
-pub mod old;
-
+// A call makes the header's checks and the page's, then checks the whole record of its cell, and no other cell. Its column count and
+// its row number are in `row_head`, its values in `row_values`.
 ghost use mathlib.Core.Path.{_≡_};
-ghost use Rattle.row.specs.Row.{countOf, rowOf, cursorBy, cursorOf};
+ghost use Rattle.row.specs.Row.{cursorBy, cursorOf};
 ghost use Rattle.row.specs.Found.{cursorFor, Lying, foundBy};
 ghost use Rattle.row.specs.Column.{slotThen, columnFrom, columnOf};
 ghost use Rattle.cells.specs.Located.{locatedIn, locatedOf};
@@ -24,16 +19,6 @@ use page::OpenAnswer;
 use place::Page;
 use reading::Reading;
 use varint::Number;
-
-pub enum CountAnswer {
-    Shown(usize),
-    Refused(Refusal),
-}
-
-pub enum RowNumberAnswer {
-    Shown(i64),
-    Refused(Refusal),
-}
 
 // A cell that was checked, with its page and the cursor before its first column.
 pub struct FoundCell {
@@ -56,31 +41,6 @@ pub enum ColumnAnswer {
     // The column's serial type, and where its value stands.
     Shown { serial: u64, at: usize },
     Refused(Refusal),
-}
-
-// How many columns cell `i` of the page has; 0 in an interior table cell.
-pub fn count(db: &[u8], page: Page, i: usize) -> CountAnswer
-    ensures { λ r. ⌜ r ≡ countOf page i (now (db .entry)) ⌝ }
-{
-    let answer = cells::cell_at(db, page, i);
-    match answer {
-        LocatedAnswer::Refused(refusal) => CountAnswer::Refused(refusal),
-        LocatedAnswer::Shown(located) => {
-            let cell = located.cell;
-            CountAnswer::Shown(cell.columns)
-        }
-    }
-}
-
-// Its row number or key; 0 in an index cell of the file reading.
-pub fn row_number(db: &[u8], page: Page, i: usize) -> RowNumberAnswer
-    ensures { λ r. ⌜ r ≡ rowOf page i (now (db .entry)) ⌝ }
-{
-    let answer = cells::cell_at(db, page, i);
-    match answer {
-        LocatedAnswer::Refused(refusal) => RowNumberAnswer::Refused(refusal),
-        LocatedAnswer::Shown(located) => RowNumberAnswer::Shown(cells::row_of(located)),
-    }
 }
 
 // The cursor before the first column of a cell that lies in so many bytes.

@@ -29,10 +29,10 @@ use Rattle.row.specs.declared.ColumnAnswer.{ColumnAnswer}
 use Rattle.row.specs.declared.ColumnAnswer.the-variants as cl
 use Rattle.row.specs.Found.{cursorIn, foundBy}
 use Rattle.row.specs.Column.{slotThen, columnBy}
-use Rattle.row.specs.Old as old-calls
-use Rattle.row.specs.File as file-calls
+use Rattle.row_values.specs.Old as old-calls
+use Rattle.row_values.specs.File as file-calls
 use Rattle.row.proofs.Placed.{placed-in, column-along}
-use Rattle.row.proofs.Told.{old-shown-located, file-shown-located}
+use Rattle.row_values.proofs.Told.{old-shown-located, file-shown-located}
 use Rattle.guarded.specs.Guarded as guarded
 use Rattle.guarded.proofs.Guard.{leaf-opened, guarded-in, guarded-open}
 use Rattle.guarded.proofs.Calls.{guarded-shown-located}

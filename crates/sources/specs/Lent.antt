@@ -2,8 +2,8 @@
 use Prim.Native.Nat.{ℕ}
 use Rattle.answers.specs.declared.Refusal.{Refusal}
 use Rattle.values.specs.declared.file.Value.{Value}
-use Rattle.spilled.specs.declared.Source.{Source}
-use Rattle.spilled.specs.declared.Source.the-variants.{Database, Buffer}
+use Rattle.spills.specs.declared.Source.{Source}
+use Rattle.spills.specs.declared.Source.the-variants.{Database, Buffer}
 use Rattle.spilled.specs.declared.ValueAnswer.{ValueAnswer}
 use Rattle.spilled.specs.declared.ValueAnswer.the-variants as an
 use Rattle.turns.specs.declared.types.Row.{Row}

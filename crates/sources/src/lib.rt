@@ -1,7 +1,7 @@
 // What calls answer that are lent a gather buffer, as C has it: beside a value or a row, the bytes that its places count in.
 ghost use mathlib.Core.Path.{_≡_};
 ghost use Rattle.sources.specs.Lent.{sourceOf, lentRow, lentShown};
-use spilled::Source;
+use spills::Source;
 use turns::refusals::no_refusal;
 use turns::refusals::refused_by;
 use turns::shown::empty_value;

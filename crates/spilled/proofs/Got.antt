@@ -22,7 +22,8 @@ use Rattle.cells.specs.Numbered.{numbersIn}
 use Rattle.cells.proofs.Laws.{located-open}
 use Rattle.chain.specs.Gathered.{Gathered, gatheredIn, bufferBy}
 use Rattle.chain.proofs.Laws.{gathered-numbers}
-use Rattle.spilled.specs.Lent.{Spilled, whole, gathered, cellWith, recordedIn, spilledIn, spills, instead, bufferAfter, lentIn, bufferIn, lentOf, bufferOn, bufferOf}
+use Rattle.spilled.specs.Lent.{Spilled, whole, gathered, cellWith, recordedIn, spilledIn, instead, bufferAfter, lentIn, bufferIn, lentOf, bufferOn, bufferOf}
+use Rattle.spills.specs.Spills.{spills}
 
 -- what is so of a spilled cell: its record, and the buffer that held b
 pub record Got (c : Spilled) (after b : List ℕ) : Type 0 where

@@ -15,7 +15,7 @@ use Rattle.chain.specs.Gathered.{Gathered, bufferBy, gatherAnswer}
 use Rattle.row.specs.declared.FoundCell.{FoundCell}
 use Rattle.row.specs.declared.FoundAnswer.the-variants as fo
 use Rattle.row.specs.Found.{foundBy}
-use Rattle.spilled.specs.declared.Source.the-variants.{Database}
+use Rattle.spills.specs.declared.Source.the-variants.{Database}
 use Rattle.spilled.specs.declared.LentAnswer.the-variants as le
 use Rattle.spilled.specs.Lent.{Spilled, Lent, whole, gathered, recordedIn, instead, bufferAfter, gatheredBy, lentBy}
 use Rattle.spilled.specs.Steps.{recordedBy}

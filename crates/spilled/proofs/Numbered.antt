@@ -23,8 +23,10 @@ use Rattle.cells.specs.Numbered.{numbersIn}
 use Rattle.cells.proofs.Numbered.{numbers-refused, spills-located, located-spills}
 use Rattle.chain.specs.Gathered.{gatheredWith, bufferBy}
 use Rattle.chain.proofs.Laws.{gathered-numbered}
-use Rattle.spilled.specs.Lent.{spilledIn, spillsAs, spills, lentIn, bufferIn, gatheredBy, lentBy}
-use Rattle.spilled.specs.Steps.{overIn, over, onPage, spilledWith}
+use Rattle.spilled.specs.Lent.{spilledIn, lentIn, bufferIn, gatheredBy, lentBy}
+use Rattle.spills.specs.Spills.{spillsAs, spills}
+use Rattle.spilled.specs.Steps.{onPage, spilledWith}
+use Rattle.spills.specs.Over.{overIn, over}
 use Rattle.spilled.proofs.Laws.{lent-gathered}
 
 -- WHETHER IT SPILLS

@@ -24,9 +24,9 @@ use Rattle.row.specs.declared.FoundCell.{FoundCell}
 use Rattle.row.specs.declared.FoundAnswer.the-variants as fo
 use Rattle.row.specs.declared.ColumnAnswer.{ColumnAnswer}
 use Rattle.row.specs.Column.{slotThen, columnFrom}
-use Rattle.row.specs.File.{shownBy}
+use Rattle.row_values.specs.File.{shownBy}
 use Rattle.row.proofs.Placed.{placed, column-along}
-use Rattle.spilled.specs.declared.Source.the-variants.{Database, Buffer}
+use Rattle.spills.specs.declared.Source.the-variants.{Database, Buffer}
 use Rattle.spilled.specs.declared.LentAnswer.the-variants as le
 use Rattle.spilled.specs.declared.ValueAnswer.the-variants as an
 use Rattle.spilled.specs.Lent.{Spilled, Lent, whole, gathered, lentOf, bufferOf, cursorOver, foundOver, foundOn, lentBy}

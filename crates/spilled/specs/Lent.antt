@@ -2,14 +2,10 @@
 -- payload gathered. What a call with no buffer refuses with 18 is asked for again here, and nothing else.
 use Prim.Native.Nat.{ℕ}
 use mathlib.Core.List.{List}
-use mathlib.Core.Bool.{Bool, true, false}
 use lib.ListN.{length}
 use Rattle.laws.specs.Pick.{pick}
 use Rattle.reading.specs.declared.Reading.the-variants.{File as file}
-use Rattle.answers.specs.declared.Fault.{Fault}
-use Rattle.answers.specs.declared.Fault.the-variants as fa
 use Rattle.answers.specs.declared.Refusal.{Refusal}
-use Rattle.answers.specs.declared.Refusal.the-variants.{OfDatabase, OnPage, InCell}
 use Rattle.answers.specs.Answer.{Answer, refused, shown, _>>=_}
 use Rattle.record.specs.Record.{Record, valuesAt, recordOf}
 use Rattle.cell.specs.Cell.{Cell, told}
@@ -21,7 +17,8 @@ use Rattle.cells.specs.Located.{Located, inCell, locatedIn}
 use Rattle.chain.specs.Gathered.{Gathered, gatheredIn, bufferBy}
 use Rattle.row.specs.declared.FoundCell.{FoundCell}
 use Rattle.row.specs.Found.{cursorIn}
-use Rattle.spilled.specs.declared.Source.the-variants.{Database, Buffer}
+use Rattle.spills.specs.declared.Source.the-variants.{Database, Buffer}
+use Rattle.spills.specs.Spills.{spills}
 use Rattle.spilled.specs.declared.LentAnswer.{LentAnswer}
 use Rattle.spilled.specs.declared.LentAnswer.the-variants as le
 
@@ -50,24 +47,6 @@ spilledIn o i room db = do
   recordedIn (o .page) i g
 
 -- IN 18'S PLACE
-
-abbrev pub spillsAs : Fault → Bool
-spillsAs fa.PointerOutside = false
-spillsAs fa.CellCut = false
-spillsAs fa.PayloadSpills = true
-spillsAs fa.BufferTooShort = false
-spillsAs fa.ChainUnfit = false
-spillsAs fa.HeaderUnfit = false
-spillsAs (fa.TypeReserved column) = false
-spillsAs (fa.ValueUnfit column) = false
-spillsAs fa.ClosingCut = false
-spillsAs (fa.Marked mark) = false
-spillsAs fa.OutOfOrder = false
-
-abbrev pub spills : Refusal → Bool
-spills (OfDatabase flaw) = false
-spills (OnPage page reason) = false
-spills (InCell page cell fault) = spillsAs fault
 
 -- what is shown, or in 18's place another answer
 abbrev pub instead : {A B : Type 0} → (A → B) → Answer Refusal B → Answer Refusal A → Answer Refusal B

@@ -9,12 +9,12 @@ use Rattle.record.specs.Record.{valuesAt}
 use Rattle.columns.specs.Columns.{slotIn}
 use Rattle.place.specs.Place.{filePage}
 use Rattle.row.specs.declared.ColumnAnswer.{ColumnAnswer}
-use Rattle.row.specs.declared.file.ValueAnswer as fv
-use Rattle.row.specs.declared.file.ValueAnswer.the-variants as va
+use Rattle.row_values.specs.declared.file.ValueAnswer as fv
+use Rattle.row_values.specs.declared.file.ValueAnswer.the-variants as va
 use Rattle.row.specs.Column.{slotThen, columnBy}
-use Rattle.row.specs.File.{shownBy}
-use Rattle.spilled.specs.declared.Source.{Source}
-use Rattle.spilled.specs.declared.Source.the-variants.{Database, Buffer}
+use Rattle.row_values.specs.File.{shownBy}
+use Rattle.spills.specs.declared.Source.{Source}
+use Rattle.spills.specs.declared.Source.the-variants.{Database, Buffer}
 use Rattle.spilled.specs.declared.ValueAnswer.{ValueAnswer}
 use Rattle.spilled.specs.declared.ValueAnswer.the-variants as an
 use Rattle.spilled.specs.Lent.{Spilled, Lent, whole, gathered, lentOf}
@@ -36,8 +36,3 @@ valueBy k db (shown (gathered c)) = from Buffer (shownBy (c .payload) (columnIn 
 -- column k of cell i of the page of that number
 unfoldable pub valueOf : ℕ → ℕ → ℕ → ℕ → List ℕ → ValueAnswer
 valueOf number i k room db = valueBy k db (lentOf (filePage number) i room db)
-
--- the bytes that a place counts in
-abbrev pub bytesIn : Source → List ℕ → List ℕ → List ℕ
-bytesIn Database db buffer = db
-bytesIn Buffer db buffer = buffer

@@ -5,14 +5,12 @@
 // part of the database or as part of the buffer; an answer says which.
 ghost use mathlib.Core.Path.{_≡_};
 ghost use lib.ListN.{length};
-ghost use Rattle.values.specs.Part.{partOf};
 ghost use Rattle.place.specs.Place.{filePage};
 ghost use Rattle.cells.specs.Located.{locatedIn};
-ghost use Rattle.spilled.specs.Lent.{spills, spillsAs, spilledIn, gatheredBy, lentIn, bufferIn, lentOf, bufferOf, lentBy};
-ghost use Rattle.spilled.specs.Values.{from, valueOf, bytesIn};
-ghost use Rattle.spilled.specs.Steps.{over, onPage, spilledWith, recordedBy, valueOver};
+ghost use Rattle.spilled.specs.Lent.{spilledIn, gatheredBy, lentIn, bufferIn, lentOf, bufferOf, lentBy};
+ghost use Rattle.spilled.specs.Values.{from, valueOf};
+ghost use Rattle.spilled.specs.Steps.{onPage, spilledWith, recordedBy, valueOver};
 ghost use Rattle.chain.specs.Gathered.{gatheredWith, gatheredIn, bufferBy};
-use answers::Fault;
 use answers::Refusal;
 use cell::Cell;
 use cell::Numbers;
@@ -26,14 +24,9 @@ use reading::Reading;
 use record::RecordAnswer;
 use row::FoundAnswer;
 use row::FoundCell;
+use spills::Source;
 use values::file::Value;
 use varint::Number;
-
-// The bytes that a place counts in.
-pub enum Source {
-    Database,
-    Buffer,
-}
 
 pub enum LentAnswer {
     // The cell, and the bytes that its cursor counts in.
@@ -45,39 +38,6 @@ pub enum ValueAnswer {
     // The value, and the bytes that the place of a text or a blob counts in.
     Shown { value: Value, source: Source },
     Refused(Refusal),
-}
-
-fn spills_as(fault: Fault) -> bool
-    ensures { λ r. ⌜ r ≡ spillsAs fault ⌝ }
-{
-    match fault {
-        Fault::PointerOutside => false,
-        Fault::CellCut => false,
-        Fault::PayloadSpills => true,
-        Fault::BufferTooShort => false,
-        Fault::ChainUnfit => false,
-        Fault::HeaderUnfit => false,
-        Fault::TypeReserved { column: _ } => false,
-        Fault::ValueUnfit { column: _ } => false,
-        Fault::ClosingCut => false,
-        Fault::Marked(_) => false,
-        Fault::OutOfOrder => false,
-    }
-}
-
-// Whether a call that was lent no buffer was refused for a payload that spills.
-pub fn spills_by(refusal: Refusal) -> bool
-    ensures { λ r. ⌜ r ≡ spills refusal ⌝ }
-{
-    match refusal {
-        Refusal::OfDatabase(_) => false,
-        Refusal::OnPage { page: _, reason: _ } => false,
-        Refusal::InCell {
-            page: _,
-            cell: _,
-            fault,
-        } => spills_as(fault),
-    }
 }
 
 // The record of a payload that was gathered, in a cell with these numbers.
@@ -148,26 +108,6 @@ pub fn spilled_in(db: &[u8], opened: Open, i: usize, buffer: &mut [u8]) -> LentA
     }
 }
 
-// Whether a payload of `p` bytes spills, in a cell of an opened page.
-fn is_over(opened: Open, p: u64) -> bool
-    ensures { λ r. ⌜ r ≡ over opened p ⌝ }
-{
-    let kind = opened.kind;
-    if !kind.has_size() {
-        return false;
-    }
-    let page = opened.page;
-    let reading = page.reading;
-    match reading {
-        Reading::Old => {
-            return false;
-        }
-        Reading::File => {
-            return kind.most_whole(opened.end) < p;
-        }
-    }
-}
-
 // Cell `i` of an opened page, on the page.
 fn found_on(db: &[u8], opened: Open, i: usize) -> LentAnswer
     ensures { λ r. ⌜ r ≡ onPage (locatedIn opened i (now (db .entry))) ⌝ }
@@ -192,7 +132,7 @@ pub fn found_in(db: &[u8], opened: Open, i: usize, buffer: &mut [u8]) -> LentAns
         NumberedAnswer::Refused(refusal) => LentAnswer::Refused(refusal),
         NumberedAnswer::Shown(numbers) => {
             let size: Number = numbers.size;
-            if is_over(opened, size.value) {
+            if spills::is_over(opened, size.value) {
                 return spilled_by(db, opened, i, numbers, buffer);
             }
             found_on(db, opened, i)
@@ -212,12 +152,12 @@ pub fn found(db: &[u8], page: Page, i: usize, buffer: &mut [u8]) -> LentAnswer
     }
 }
 
-pub fn shown_from(answer: row::file::ValueAnswer, source: Source) -> ValueAnswer
+pub fn shown_from(answer: row_values::file::ValueAnswer, source: Source) -> ValueAnswer
     ensures { λ r. ⌜ r ≡ from source answer ⌝ }
 {
     match answer {
-        row::file::ValueAnswer::Refused(refusal) => ValueAnswer::Refused(refusal),
-        row::file::ValueAnswer::Shown(value) => ValueAnswer::Shown { value, source },
+        row_values::file::ValueAnswer::Refused(refusal) => ValueAnswer::Refused(refusal),
+        row_values::file::ValueAnswer::Shown(value) => ValueAnswer::Shown { value, source },
     }
 }
 
@@ -226,7 +166,7 @@ fn value_in(bytes: &[u8], found: FoundCell, source: Source, k: usize) -> ValueAn
     ensures { λ r. ⌜ r ≡ valueOver k (now (bytes .entry)) found source ⌝ }
 {
     let column = row::column_of(bytes, FoundAnswer::Shown(found), k);
-    shown_from(row::file::shown(bytes, column), source)
+    shown_from(row_values::file::shown(bytes, column), source)
 }
 
 // Column `k` of cell `i` of the page of that number.
@@ -244,21 +184,5 @@ pub fn value(db: &[u8], number: u32, i: usize, k: usize, buffer: &mut [u8]) -> V
                 value_in(parts::part(buffer, 0, cell.payload), found, source, k)
             }
         },
-    }
-}
-
-// The bytes of a text or a blob: a part of the database's where its payload is whole, else of the gathered payload's.
-pub fn bytes_of<'a>(
-    db: &'a [u8],
-    buffer: &'a [u8],
-    source: Source,
-    at: usize,
-    len: usize,
-) -> &'a [u8]
-    ensures { λ r. ⌜ now r ≡ partOf at len (bytesIn source (now (db .entry)) (now (buffer .entry))) ⌝ }
-{
-    match source {
-        Source::Database => values::part::part(db, at, len),
-        Source::Buffer => values::part::part(buffer, at, len),
     }
 }

@@ -13,9 +13,9 @@ use print::out::field;
 use print::out::field_i64;
 use print::out::field_u32;
 use print::out::text;
-use row::CountAnswer;
-use row::RowNumberAnswer;
-use row::old::ValueAnswer;
+use row_head::CountAnswer;
+use row_head::RowNumberAnswer;
+use row_values::old::ValueAnswer;
 
 // How many cells of a page are asked for, the first ones.
 const MOST: usize = 64;
@@ -100,7 +100,7 @@ fn cell(db: &[u8], out: &mut [u8], at: usize, telling: Telling, number: u32, i: 
 
 // Row number, column count and values, each by its own call.
 fn row(db: &[u8], out: &mut [u8], at: usize, telling: Telling, number: u32, i: usize) -> usize {
-    let answer = row::row_number(db, place::old(number), i);
+    let answer = row_head::row_number(db, place::old(number), i);
     match answer {
         RowNumberAnswer::Refused(refusal) => refused(
             out,
@@ -117,7 +117,7 @@ fn row(db: &[u8], out: &mut [u8], at: usize, telling: Telling, number: u32, i: u
 
 // A cell that has a row number is counted: no numbers are told.
 fn counted(db: &[u8], out: &mut [u8], at: usize, number: u32, i: usize) -> usize {
-    let answer = row::count(db, place::old(number), i);
+    let answer = row_head::count(db, place::old(number), i);
     match answer {
         CountAnswer::Refused(_) => text(out, at, b" refused\n"),
         CountAnswer::Shown(count) => {
@@ -146,7 +146,7 @@ fn values(db: &[u8], out: &mut [u8], at: usize, number: u32, i: usize, count: us
 }
 
 fn value(db: &[u8], out: &mut [u8], at: usize, number: u32, i: usize, k: usize) -> usize {
-    let answer = row::old::value(db, number, i, k);
+    let answer = row_values::old::value(db, number, i, k);
     match answer {
         ValueAnswer::Refused(_) => text(out, at, b" missing"),
         ValueAnswer::Shown(v) => old::value(db, out, at, v),
@@ -155,7 +155,7 @@ fn value(db: &[u8], out: &mut [u8], at: usize, number: u32, i: usize, k: usize) 
 
 // There is no column behind the last: where one is shown, the line says so.
 fn behind_last(db: &[u8], out: &mut [u8], at: usize, number: u32, i: usize, k: usize) -> usize {
-    let answer = row::old::value(db, number, i, k);
+    let answer = row_values::old::value(db, number, i, k);
     match answer {
         ValueAnswer::Refused(_) => at,
         ValueAnswer::Shown(_) => text(out, at, b" more"),

@@ -7,15 +7,15 @@ use kinds::Kind;
 use page::OpenAnswer;
 use page::Site;
 use page::SiteAnswer;
-use place::ShapeAnswer;
 use print::out::field;
 use print::out::field_u32;
 use print::out::refused;
 use print::out::text;
 use reading::Reading;
+use shape::ShapeAnswer;
 
 pub fn database(db: &[u8], out: &mut [u8], at: usize) -> usize {
-    let answer = place::shape_of(db, Reading::File);
+    let answer = shape::shape_of(db, Reading::File);
     match answer {
         ShapeAnswer::Refused(flaw) => {
             let numbers = answers::numbers_of(Refusal::OfDatabase(flaw));

@@ -13,7 +13,6 @@ use header::Header;
 use header::HeaderAnswer;
 use page::OpenAnswer;
 use place::Page;
-use place::ShapeAnswer;
 use print::out::field;
 use print::out::field_i64;
 use print::out::field_u8;
@@ -23,7 +22,8 @@ use print::out::long;
 use print::out::real;
 use print::out::text;
 use reading::Reading;
-use row::old::NextAnswer;
+use row_values::old::NextAnswer;
+use shape::ShapeAnswer;
 use table::Entry;
 use table::Head;
 use table::PageAnswer;
@@ -86,7 +86,7 @@ fn settings(out: &mut [u8], at: usize, header: Header) -> usize {
 
 // The page behind the last one, which is asked for too. Pages of no bytes have no last one: 0 and 1 stand for all.
 fn last_page(db: &[u8]) -> usize {
-    let shaped = place::shape_of(db, Reading::Old);
+    let shaped = shape::shape_of(db, Reading::Old);
     match shaped {
         ShapeAnswer::Refused(_) => 0,
         ShapeAnswer::Shown(shape) => {
@@ -165,7 +165,7 @@ fn record(out: &mut [u8], at: usize, entry: Entry) -> usize {
 
 // The value at a cursor, if there is one.
 pub fn one(db: &[u8], out: &mut [u8], at: usize, here: Cursor) -> Went {
-    let reached = row::old::next(db, here);
+    let reached = row_values::old::next(db, here);
     match reached {
         NextAnswer::Done => Went::Nowhere(at),
         NextAnswer::Column { value: v, next } => Went::On {

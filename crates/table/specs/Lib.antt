@@ -1,4 +1,3 @@
 pub mod Head
 pub mod Entry
 pub mod Page
-pub mod Agreement

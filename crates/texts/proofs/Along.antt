@@ -5,8 +5,8 @@ use mathlib.Core.List.{List, [], _++_}
 use native.Mathlib.Omega.{arith}
 use Rattle.columns.specs.declared.Cursor.{Cursor}
 use Rattle.values.specs.declared.file.Value.{Value}
-use Rattle.row.specs.declared.file.NextAnswer.the-variants.{Column, Done}
-use Rattle.row.specs.File.{nextOf}
+use Rattle.row_values.specs.declared.file.NextAnswer.the-variants.{Column, Done}
+use Rattle.row_values.specs.File.{nextOf}
 use Rattle.texts.specs.Row.{valueText, valuesText}
 
 module _ (c : Cursor) (db : List ℕ) where

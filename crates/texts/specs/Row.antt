@@ -11,9 +11,9 @@ use Rattle.columns.specs.declared.Cursor.{Cursor}
 use Rattle.cells.specs.Located.{rowNumber}
 use Rattle.row.specs.declared.FoundAnswer.{FoundAnswer}
 use Rattle.row.specs.declared.FoundAnswer.the-variants as fo
-use Rattle.row.specs.declared.file.NextAnswer.{NextAnswer}
-use Rattle.row.specs.declared.file.NextAnswer.the-variants as ne
-use Rattle.row.specs.File.{nextOf}
+use Rattle.row_values.specs.declared.file.NextAnswer.{NextAnswer}
+use Rattle.row_values.specs.declared.file.NextAnswer.the-variants as ne
+use Rattle.row_values.specs.File.{nextOf}
 use Rattle.print.specs.Hex.{hexOf}
 use Rattle.print.specs.Text.{signedOf, refusedOf}
 

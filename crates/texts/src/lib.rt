@@ -11,7 +11,7 @@ use print::out::real;
 use print::out::refused;
 use print::out::text;
 use row::FoundAnswer;
-use row::file::NextAnswer;
+use row_values::file::NextAnswer;
 use values::file::Value;
 use values::part::part;
 use varint::Number;
@@ -41,7 +41,7 @@ fn values(db: &[u8], out: &mut [u8], at: usize, first: Cursor, count: usize) -> 
     let mut here = first;
     let mut left = count;
     while 0 < left {
-        let reached = row::file::next(db, here);
+        let reached = row_values::file::next(db, here);
         let NextAnswer::Column { value: v, next } = reached else {
             return n;
         };

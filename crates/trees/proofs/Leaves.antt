@@ -16,9 +16,9 @@ use Rattle.answers.specs.Answer as an
 use Rattle.kinds.specs.declared.Kind.the-variants.{LeafTable}
 use Rattle.cell.specs.declared.Numbers.{Numbers}
 use Rattle.place.specs.declared.Page.{Page}
-use Rattle.place.specs.declared.Shape.{Shape}
+use Rattle.shape.specs.declared.Shape.{Shape}
 use Rattle.place.specs.Place.{filePage}
-use Rattle.place.specs.Shape.{shapeOf}
+use Rattle.shape.specs.Shape.{shapeOf}
 use Rattle.page.specs.declared.Open.{Open}
 use Rattle.page.specs.Open.{openOf}
 use Rattle.page.proofs.Sites.{open-page}

@@ -9,9 +9,9 @@ use lib.ListN.{length}
 use Rattle.reading.specs.declared.Reading.the-variants.{File as file}
 use Rattle.answers.specs.Answer as an
 use Rattle.kinds.specs.declared.Kind.the-variants.{LeafTable}
-use Rattle.place.specs.declared.Shape.{Shape}
+use Rattle.shape.specs.declared.Shape.{Shape}
 use Rattle.place.specs.Place.{filePage}
-use Rattle.place.specs.Shape.{shapeOf}
+use Rattle.shape.specs.Shape.{shapeOf}
 use Rattle.page.specs.declared.Open.{Open}
 use Rattle.page.specs.Open.{openOf}
 use Rattle.cells.specs.Located.{Located, rowNumber, locatedOf}

@@ -5,10 +5,10 @@ use Rattle.values.specs.declared.old.Value.{Value as OldValue}
 use Rattle.values.specs.declared.old.Value.the-variants as ov
 use Rattle.values.specs.declared.file.Value.{Value as FileValue}
 use Rattle.values.specs.declared.file.Value.the-variants as fv
-use Rattle.row.specs.declared.old.ValueAnswer.{ValueAnswer as OldAnswer}
-use Rattle.row.specs.declared.old.ValueAnswer.the-variants as oa
-use Rattle.row.specs.declared.file.ValueAnswer.{ValueAnswer as FileAnswer}
-use Rattle.row.specs.declared.file.ValueAnswer.the-variants as fa
+use Rattle.row_values.specs.declared.old.ValueAnswer.{ValueAnswer as OldAnswer}
+use Rattle.row_values.specs.declared.old.ValueAnswer.the-variants as oa
+use Rattle.row_values.specs.declared.file.ValueAnswer.{ValueAnswer as FileAnswer}
+use Rattle.row_values.specs.declared.file.ValueAnswer.the-variants as fa
 use Rattle.turns.specs.declared.types.Value.{Value}
 use Rattle.turns.specs.declared.types.Shown.{Shown}
 use Rattle.turns.specs.Refusals.{accepted, refusedBy}

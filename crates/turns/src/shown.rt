@@ -78,15 +78,15 @@ pub fn old_value(value: values::old::Value) -> Value
     }
 }
 
-pub fn old_shown(answer: row::old::ValueAnswer) -> Shown
+pub fn old_shown(answer: row_values::old::ValueAnswer) -> Shown
     ensures { λ r. ⌜ r ≡ oldShown answer ⌝ }
 {
     match answer {
-        row::old::ValueAnswer::Refused(refusal) => Shown {
+        row_values::old::ValueAnswer::Refused(refusal) => Shown {
             refused: refused_by(refusal),
             value: empty_value(),
         },
-        row::old::ValueAnswer::Shown(value) => Shown {
+        row_values::old::ValueAnswer::Shown(value) => Shown {
             refused: no_refusal(),
             value: old_value(value),
         },
@@ -105,15 +105,15 @@ pub fn file_value(value: values::file::Value) -> Value
     }
 }
 
-pub fn file_shown(answer: row::file::ValueAnswer) -> Shown
+pub fn file_shown(answer: row_values::file::ValueAnswer) -> Shown
     ensures { λ r. ⌜ r ≡ fileShown answer ⌝ }
 {
     match answer {
-        row::file::ValueAnswer::Refused(refusal) => Shown {
+        row_values::file::ValueAnswer::Refused(refusal) => Shown {
             refused: refused_by(refusal),
             value: empty_value(),
         },
-        row::file::ValueAnswer::Shown(value) => Shown {
+        row_values::file::ValueAnswer::Shown(value) => Shown {
             refused: no_refusal(),
             value: file_value(value),
         },

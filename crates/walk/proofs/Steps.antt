@@ -16,8 +16,8 @@ use Rattle.answers.specs.declared.Refusal.{Refusal}
 use Rattle.answers.specs.declared.Refusal.the-variants.{OfDatabase, OnPage}
 use Rattle.answers.specs.Answer as an
 use Rattle.cell.specs.declared.Numbers.{Numbers}
-use Rattle.place.specs.declared.Shape.{Shape}
-use Rattle.place.specs.Shape.{shapeOf}
+use Rattle.shape.specs.declared.Shape.{Shape}
+use Rattle.shape.specs.Shape.{shapeOf}
 use Rattle.page.specs.declared.Open.{Open}
 use Rattle.keys.specs.declared.KeyAnswer.the-variants as ka
 use Rattle.keys.specs.Key.{keyOf}

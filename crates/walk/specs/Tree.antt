@@ -6,7 +6,7 @@ use lib.IntN.{ℤ, pos}
 use Rattle.reading.specs.declared.Reading.the-variants.{File as file}
 use Rattle.answers.specs.declared.Reason.the-variants as re
 use Rattle.answers.specs.declared.Refusal.the-variants.{OnPage}
-use Rattle.place.specs.Shape.{shapeOf}
+use Rattle.shape.specs.Shape.{shapeOf}
 use Rattle.page.specs.declared.Open.{Open}
 use Rattle.page.specs.Open.{ofDatabase}
 use Rattle.keys.specs.Key.{keyOf}

@@ -19,8 +19,8 @@ use kinds::Kind;
 use page::Open;
 use page::OpenAnswer;
 use place::Page;
-use place::ShapeAnswer;
 use reading::Reading;
+use shape::ShapeAnswer;
 use varint::Number;
 
 // How many pages deep a table is at most; its root is the first.
@@ -278,7 +278,7 @@ fn walk(db: &[u8], page: u32, most: i64, depth: usize, state: State, count: usiz
 pub fn count(db: &[u8], root: u32) -> CountAnswer
     ensures { λ r. ⌜ r ≡ countOf root (now (db .entry)) ⌝ }
 {
-    let shaped = place::shape_of(db, Reading::File);
+    let shaped = shape::shape_of(db, Reading::File);
     match shaped {
         ShapeAnswer::Refused(flaw) => CountAnswer::Refused(Refusal::OfDatabase(flaw)),
         ShapeAnswer::Shown(shape) => {

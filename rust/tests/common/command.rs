@@ -5,6 +5,7 @@ use std::fs;
 use std::io::Write;
 use std::path::{Path, PathBuf};
 use std::process::{Command, Output, Stdio};
+use std::sync::atomic::{AtomicUsize, Ordering};
 
 /// The command; on another machine than x86-64, under the emulator that bin/rust-test names.
 pub fn command() -> Command {
@@ -43,9 +44,23 @@ pub fn status(output: &Output) -> i32 {
     output.status.code().unwrap()
 }
 
-/// The inputs and outputs that are kept for the proved program `rows`.
+/// The inputs that are kept for the proved program `rows`, and of each its part of what the program writes of all: `rows` is the one on
+/// standard input, `rows_NAME` the file NAME.db. The parts stand in the order of the program's arguments, each below the heading.
 pub fn kept(name: &str, file: &str) -> PathBuf {
-    Path::new(env!("CARGO_MANIFEST_DIR")).join("../crates").join(name).join(file)
+    static PARTS: AtomicUsize = AtomicUsize::new(0);
+    const HEADING: &str = "page cell reading rowid values\n";
+    let rows = Path::new(env!("CARGO_MANIFEST_DIR")).join("../crates/rows");
+    let database = name.strip_prefix("rows_").map(|name| format!("{name}.db"));
+    if file == "stdin" {
+        return database.map_or(rows.join(file), |database| rows.join("data").join(database));
+    }
+    let named = database.unwrap_or("-".to_string());
+    let at = fs::read_to_string(rows.join("args")).unwrap().lines().position(|word| word == named).unwrap();
+    let all = fs::read_to_string(rows.join(file)).unwrap();
+    let part = all.split(HEADING).nth(at + 1).unwrap();
+    let path = Path::new(env!("CARGO_TARGET_TMPDIR")).join(format!("{name}_{}", PARTS.fetch_add(1, Ordering::Relaxed)));
+    fs::write(&path, format!("{HEADING}{part}")).unwrap();
+    path
 }
 
 /// A file that is gone once the test is over.

@@ -4,8 +4,8 @@ use lib.ListN.{length}
 use denote.Ref.{now}
 use Rattle.reading.specs.declared.Reading.the-variants.{File as file}
 use Rattle.answers.specs.Answer.{shown}
-use Rattle.place.specs.Shape.{shapeOf}
-use Rattle.place.proofs.Laws.{shape-answered, shape-unanswered}
+use Rattle.shape.specs.Shape.{shapeOf}
+use Rattle.shape.proofs.Laws.{shape-answered, shape-unanswered}
 use Rattle.chain.specs.Gathered.{payloadAnswer, heldBy}
 use Rattle.chain.proofs.Laws.{shape-shaped, payload-answered, payload-unanswered, payloadBehind, gathered-unshaped, gathered-faulty, gathered-shown}
 use borrow.Author.Needs.{needs}

@@ -4,7 +4,7 @@ use mathlib.Core.Path.{refl, sym, ap, _∙_}
 use mathlib.Core.List.{List}
 use denote.Ref.{now}
 use lib.ListN.{length, take, drop}
-use Rattle.spilled.specs.declared.Source.the-variants.{Database, Buffer}
+use Rattle.spills.specs.declared.Source.the-variants.{Database, Buffer}
 use Rattle.spilled.specs.Lent as file
 use Rattle.marked.specs.Marked as marked
 use Rattle.turns.specs.declared.types.Row.{Row}

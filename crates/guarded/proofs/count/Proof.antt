@@ -1,8 +1,9 @@
 -- The count is the found cell's.
 use mathlib.Core.Path.{sym, ap, _∙_}
 use denote.Ref.{now}
-use Rattle.row.specs.Row.{countBy}
-use Rattle.row.proofs.Told.{told-refused, told-shown}
+use Rattle.row_head.specs.Head.{countBy}
+use Rattle.row.proofs.Told.{told-refused}
+use Rattle.row_head.proofs.Told.{told-shown}
 use Rattle.guarded.specs.Guarded.{locatedOf, countOf}
 use borrow.Author.Needs.{needs}
 use Rattle.guarded.proofs.count.Statement.{statement}

@@ -3,9 +3,10 @@ use mathlib.Core.Path.{sym, ap, _∙_}
 use mir.Syntax.{w64}
 use mir.Facts.{toZ-ofZ}
 use denote.Ref.{now}
-use Rattle.row.specs.declared.RowNumberAnswer.the-variants as ro
-use Rattle.row.specs.Row.{rowBy}
-use Rattle.row.proofs.Told.{told-refused, told-shown}
+use Rattle.row_head.specs.declared.RowNumberAnswer.the-variants as ro
+use Rattle.row_head.specs.Head.{rowBy}
+use Rattle.row.proofs.Told.{told-refused}
+use Rattle.row_head.proofs.Told.{told-shown}
 use Rattle.guarded.specs.Guarded.{locatedOf, rowOf}
 use borrow.Author.Needs.{needs}
 use Rattle.guarded.proofs.row_number.Statement.{statement}

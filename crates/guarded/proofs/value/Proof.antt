@@ -1,7 +1,7 @@
 -- Along the cursor is the column of the definition.
 use mathlib.Core.Path.{ap, _∙_}
 use denote.Ref.{now}
-use Rattle.row.specs.File.{shownBy}
+use Rattle.row_values.specs.File.{shownBy}
 use Rattle.guarded.specs.Guarded.{shownOf}
 use Rattle.guarded.proofs.Along.{found-column}
 use borrow.Author.Needs.{needs}

@@ -2,8 +2,8 @@
 use mathlib.Core.Path.{ap, _∙_}
 use denote.Ref.{now}
 use lib.ListN.{length}
-use Rattle.row.specs.File.{shownBy}
-use Rattle.spilled.specs.declared.Source.the-variants.{Database}
+use Rattle.row_values.specs.File.{shownBy}
+use Rattle.spills.specs.declared.Source.the-variants.{Database}
 use Rattle.spilled.specs.Values.{from}
 use Rattle.marked.specs.Marked.{valueOf}
 use Rattle.marked.proofs.Guarded.{lent-column}

@@ -1,8 +1,8 @@
 -- The header's answer decides first, then the page's place.
 use mathlib.Core.Path.{sym, _∙_}
-use Rattle.place.proofs.Laws.{shape-answered, shape-unanswered}
+use Rattle.shape.proofs.Laws.{shape-answered, shape-unanswered}
 use denote.Ref.{now}
-use Rattle.place.specs.Shape.{shapeOf}
+use Rattle.shape.specs.Shape.{shapeOf}
 use Rattle.page.specs.Open.{siteOf}
 use borrow.Author.Needs.{needs}
 use Rattle.page.proofs.site_of.Statement.{statement}

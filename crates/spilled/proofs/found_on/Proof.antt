@@ -4,7 +4,7 @@ use denote.Ref.{now}
 use Rattle.cells.specs.Located.{locatedIn}
 use Rattle.row.specs.declared.FoundCell.{FoundCell}
 use Rattle.row.proofs.Told.{told, told-refused}
-use Rattle.spilled.specs.declared.Source.the-variants.{Database}
+use Rattle.spills.specs.declared.Source.the-variants.{Database}
 use Rattle.spilled.specs.declared.LentAnswer.the-variants as le
 use Rattle.spilled.specs.Steps.{onPage}
 use borrow.Author.Needs.{needs}

@@ -5,7 +5,7 @@ use mathlib.Core.Path.{refl, sym, ap, _∙_}
 use denote.Ref.{now}
 use lib.ListN.{length, take, drop}
 use Rattle.place.specs.Place.{filePage}
-use Rattle.spilled.specs.declared.Source.the-variants.{Buffer}
+use Rattle.spills.specs.declared.Source.the-variants.{Buffer}
 use Rattle.spilled.specs.Lent.{lentOf}
 use Rattle.spilled.specs.Values.{valueOf}
 use Rattle.spilled.specs.Steps.{valueOver}

@@ -2,8 +2,8 @@
 use mathlib.Core.Path.{sym, ap, _∙_}
 use denote.Ref.{now}
 use Rattle.reading.specs.declared.Reading.the-variants.{File as file}
-use Rattle.place.specs.Shape.{shapeOf}
-use Rattle.place.proofs.Laws.{shape-answered, shape-unanswered}
+use Rattle.shape.specs.Shape.{shapeOf}
+use Rattle.shape.proofs.Laws.{shape-answered, shape-unanswered}
 use Rattle.walk.specs.Counted.{countBy, countOf}
 use Rattle.walk.proofs.Steps.{table-flawed, table-shaped}
 use borrow.Author.Needs.{needs}

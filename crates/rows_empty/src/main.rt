@@ -1,4 +1,0 @@
-// `rows` on no bytes at all.
-fn main() {
-    lines::run();
-}

@@ -1,4 +1,0 @@
-// `rows` on one byte more than it takes.
-fn main() {
-    lines::run();
-}

@@ -1,4 +1,0 @@
-// `rows` on a header that the file reading refuses.
-fn main() {
-    lines::run();
-}

@@ -1,0 +1,2 @@
+pub mod Spills
+pub mod Over
