@@ -1,8 +1,9 @@
 /* ours old|file|guarded|lent FILE PASSES: all values of all rows of all table leaves, PASSES times, by the calls for C.
- * ours walk|list FILE PASSES: the places and numbers of all rows of the table, whose root is page 2.
+ * ours walk|list|trusted FILE PASSES: the places and numbers of all rows of the table, whose root is page 2.
  *
  * `lent` is the file reading with a gather buffer lent, so that rows that spill are shown too; `walk` counts the rows and then
- * lists them, and `list` lists them into a list that is known to be long enough. It prints what the last pass was shown; with
+ * lists them, `list` lists them into a list that is known to be long enough, and `trusted` does so where all readings show every row
+ * alike. It prints what the last pass was shown; with
  * no pass, it does everything but the work that is counted. */
 #include <stdbool.h>
 #include <stdlib.h>
@@ -31,7 +32,7 @@ static reading named(const char *name) {
     if (strcmp(name, "old") == 0) return SHORGAVEL_OLD;
     if (strcmp(name, "file") == 0) return SHORGAVEL_FILE;
     if (strcmp(name, "lent") == 0) return LENT;
-    if (strcmp(name, "guarded") != 0) fail("the readings are old, file, guarded and lent, the walks walk and list");
+    if (strcmp(name, "guarded") != 0) fail("the readings are old, file, guarded and lent, the walks walk, list and trusted");
     return SHORGAVEL_GUARDED;
 }
 
@@ -114,15 +115,16 @@ static shown pass_lent(const uint8_t *db, size_t length, uint32_t pages) {
 }
 
 /* Only the row numbers are folded, since SQLite tells no places. */
-static shown pass_list(const uint8_t *db, size_t length, int64_t *list, size_t words) {
+static shown pass_list(bool trusts, const uint8_t *db, size_t length, int64_t *list, size_t words) {
     shown s = {0, 0, 0, 0};
-    shorgavel_rows_answer listed = shorgavel_table_rows(db, length, ROOT, list, words);
+    shorgavel_rows_answer listed = trusts ? shorgavel_trusted_rows(db, length, ROOT, list, words)
+                                          : shorgavel_table_rows(db, length, ROOT, list, words);
     for (size_t i = 0; i < listed.count; i++) show_listed(&s, list[ROW * i + 2]);
     return s;
 }
 
 static shown walk(const char *how, const uint8_t *db, size_t length, int passes) {
-    bool counts = strcmp(how, "walk") == 0;
+    bool counts = strcmp(how, "walk") == 0, trusts = strcmp(how, "trusted") == 0;
     size_t words = ROW * shorgavel_table_count(db, length, ROOT).count;
     int64_t *list = malloc((words + 1) * sizeof *list);
     if (!list) fail("there is no memory");
@@ -130,10 +132,14 @@ static shown walk(const char *how, const uint8_t *db, size_t length, int passes)
     shown s = {0, 0, 0, 0};
     for (; passes > 0; passes--) {
         if (counts) words = ROW * shorgavel_table_count(db, length, ROOT).count;
-        s = pass_list(db, length, list, words);
+        s = pass_list(trusts, db, length, list, words);
     }
     free(list);
     return s;
+}
+
+static bool is_walk(const char *how) {
+    return strcmp(how, "walk") == 0 || strcmp(how, "list") == 0 || strcmp(how, "trusted") == 0;
 }
 
 static shown pass_of(reading r, const uint8_t *db, size_t length, uint32_t pages) {
@@ -149,7 +155,7 @@ int main(int count, char **words) {
     if (count != 4) fail("the words are a reading or a walk, a file and a number of passes");
     size_t length;
     uint8_t *db = load(words[2], &length);
-    if (strcmp(words[1], "walk") == 0 || strcmp(words[1], "list") == 0) {
+    if (is_walk(words[1])) {
         print_shown(walk(words[1], db, length, atoi(words[3])));
         free(db);
         return 0;

@@ -346,6 +346,19 @@ shorgavel_rows_answer shorgavel_table_count(const uint8_t *db, size_t length, ui
  * and so are its words behind the last row. The pointer is not null, also where there is no room. */
 shorgavel_rows_answer shorgavel_table_rows(const uint8_t *db, size_t length, uint32_t root, int64_t *list, size_t words);
 
+/* A WHOLE TABLE THAT BOTH READINGS SHOW ALIKE: the same walk, and each of its rows in the guarded reading. The table is given if the
+ * walk is accepted and guarded shows every row. Then the old reading shows each listed row too, with the number that is listed and with
+ * the column count and the values of the file reading. Else nothing is given, and the refusal is the walk's, or where the walk is
+ * accepted that of the first row in its order that guarded refuses, with page and cell: 21 with its mark, 18 where the payload spills,
+ * since no gather buffer is lent, or what file refuses it for. Of later rows nothing is told. */
+
+/* How many rows the table has; 0 where it is not given. */
+shorgavel_rows_answer shorgavel_trusted_count(const uint8_t *db, size_t length, uint32_t root);
+
+/* The same, and the rows in the list, as shorgavel_table_rows has them. A list that is too short for all rows is refused (19) behind the
+ * walk's refusals, and before any row's. On a refusal the list is left as it was, and so are its words behind the last row. */
+shorgavel_rows_answer shorgavel_trusted_rows(const uint8_t *db, size_t length, uint32_t root, int64_t *list, size_t words);
+
 #ifdef __cplusplus
 }
 #endif

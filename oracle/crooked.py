@@ -24,8 +24,15 @@ EACH = 40
 # SOUND DATABASES
 
 
-def sound(folder, r, size, reserved):
-    """Two tables whose trees are two to four pages deep, rows that spill among them, and an index."""
+def noted(r, size):
+    """Keys and notes, of which some are empty and some spill."""
+    count, long = r.choice((90, 300, 700)), r.choice((30, size // 3, 2 * size))
+    step, first = r.choice((1, 3)), r.choice((1, -40))
+    return [(first + step * i, "n" * r.randrange(long)) for i in range(count)]
+
+
+def sound(folder, r, size, reserved, rows_of):
+    """Two tables whose trees are two to four pages deep, with the same rows, and an index."""
     file = os.path.join(folder, "sound.db")
     if os.path.exists(file):
         os.remove(file)
@@ -35,9 +42,7 @@ def sound(folder, r, size, reserved):
     db.execute("create table t(k integer primary key, note)")
     db.execute("create table other(k integer primary key, note)")
     db.execute("create table deep(k integer primary key, note)")
-    count, long = r.choice((90, 300, 700)), r.choice((30, size // 3, 2 * size))
-    step, first = r.choice((1, 3)), r.choice((1, -40))
-    rows = [(first + step * i, "n" * r.randrange(long)) for i in range(count)]
+    rows = rows_of(r, size)
     for table in ("t", "other"):
         db.executemany(f"insert into {table} values (?, ?)", rows)
     db.execute("create index i on other(note)")
@@ -208,6 +213,17 @@ def none(r, s):
     return "none", s.data
 
 
+def record(r, s):
+    """A byte of a cell: of its payload size, its record's header or a value. A walk looks at the first alone."""
+    page = opened(s.data, r.choice(s.leaves))
+    if not page.cells:
+        return none(r, s)
+    at, took = key_of(s.data, page, r.randrange(page.cells))
+    at += r.choice((-1, took, took + 1, took + 1, took + 2, took + 2, took + 3, took + 4, took + 5))
+    byte = r.choice((0, 1, 2, 3, 7, 8, 9, 10, 11, 12, 13, 14, 15, 127, 128, 129, 255, r.randrange(256)))
+    return "a byte of a record", put(s.data, at, byte, 1)
+
+
 DAMAGE = (child,) * 8 + (order, order, key, key, key, edge, edge, count, count, kind, pointer, cut, stated, anywhere, reserved, none)
 
 
@@ -306,12 +322,12 @@ def other_root(r, s):
     return Case(name, s.data, wanted[name], None)
 
 
-def cases(folder, seed, wanted):
-    """So many cases; each fortieth begins with another sound database."""
+def cases(folder, seed, wanted, rows_of=noted, damage=DAMAGE):
+    """So many cases; each fortieth begins with another sound database, with these rows."""
     r = random.Random(f"crooked {seed}")
     for index in range(wanted):
         if index % EACH == 0:
-            s, few = sound(folder, r, *SIZES[index // EACH % len(SIZES)]), small(folder, r)
+            s, few = sound(folder, r, *SIZES[index // EACH % len(SIZES)], rows_of), small(folder, r)
         if index % EACH in (1, 2, 3):
             yield deep(r, s)
         elif index % EACH in (4, 5):
@@ -319,5 +335,5 @@ def cases(folder, seed, wanted):
         elif index % EACH in (6, 7):
             yield used_up(r, few)
         else:
-            name, data = r.choice(DAMAGE)(r, s)
+            name, data = r.choice(damage)(r, s)
             yield Case(name, data, s.root["t"], "t")

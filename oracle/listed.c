@@ -1,4 +1,5 @@
-/* listed: asks the calls for all rows of a table, for oracle/listed.py, which has the words of its input and output. */
+/* listed: asks the calls for all rows of a table, and those for a table that both readings show alike, for oracle/listed.py, which
+ * has the words of its input and output. */
 #include <stdbool.h>
 #include <stdio.h>
 #include <stdlib.h>
@@ -6,7 +7,7 @@
 
 #include "shorgavel.h"
 
-enum { DATABASE = 1, ASK = 2, ROW = sizeof(shorgavel_place) / sizeof(int64_t), BEHIND = 6 };
+enum { DATABASE = 1, ROWS = 2, TRUSTED = 3, ROW = sizeof(shorgavel_place) / sizeof(int64_t), BEHIND = 6 };
 
 /* What a list is filled with before a call: no page, no cell and no row of the databases here. */
 static const int64_t FILL = INT64_C(-0x5a5a5a5a5a5a5a5b);
@@ -38,15 +39,27 @@ static bool is_filled(const int64_t *from, const int64_t *to) {
     return from == to;
 }
 
-/* The list has as many words as the rows that were counted take, and `more`; its words behind those are watched too. */
-static void answer(const uint8_t *db, size_t length, uint32_t root, int64_t more) {
-    shorgavel_rows_answer counted = shorgavel_table_count(db, length, root);
-    int64_t room = (int64_t)counted.count * ROW + more;
+/* A call that counts rows, and the one that lists them. */
+typedef struct {
+    shorgavel_rows_answer (*count)(const uint8_t *db, size_t length, uint32_t root);
+    shorgavel_rows_answer (*rows)(const uint8_t *db, size_t length, uint32_t root, int64_t *list, size_t words);
+} calls;
+
+static calls named(uint64_t what) {
+    if (what == ROWS) return (calls){shorgavel_table_count, shorgavel_table_rows};
+    if (what != TRUSTED) fail("no such word");
+    return (calls){shorgavel_trusted_count, shorgavel_trusted_rows};
+}
+
+/* The list has as many words as the rows of the walk take, and `more`; its words behind those are watched too. */
+static void answer(calls ask, const uint8_t *db, size_t length, uint32_t root, int64_t more) {
+    shorgavel_rows_answer counted = ask.count(db, length, root);
+    int64_t room = (int64_t)shorgavel_table_count(db, length, root).count * ROW + more;
     size_t words = room > 0 ? (size_t)room : 0;
     int64_t *list = malloc((words + BEHIND) * sizeof *list);
     if (!list) fail("there is no memory");
     for (size_t i = 0; i < words + BEHIND; i++) list[i] = FILL;
-    shorgavel_rows_answer listed = shorgavel_table_rows(db, length, root, list, words);
+    shorgavel_rows_answer listed = ask.rows(db, length, root, list, words);
     size_t written = listed.refused.number == 0 ? listed.count * ROW : 0;
     if (written > words) fail("there are more rows than the list has places");
     put_answer(counted);
@@ -69,11 +82,9 @@ int main(void) {
             free(db);
             db = malloc(length > 0 ? length : 1);
             if (!db || !get(db, length)) fail("a database is cut short");
-        } else if (what == ASK) {
-            if (!get(asked, sizeof asked)) fail("a question is cut short");
-            answer(db, length, (uint32_t)asked[0], asked[1]);
         } else {
-            fail("no such word");
+            if (!get(asked, sizeof asked)) fail("a question is cut short");
+            answer(named(what), db, length, (uint32_t)asked[0], asked[1]);
         }
     }
     free(db);

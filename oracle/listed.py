@@ -1,7 +1,8 @@
-"""The calls for all rows of a table, asked by oracle/listed.c over the static library.
+"""The calls for all rows of a table, and those for a table that both readings show alike, asked by oracle/listed.c over the static
+library.
 
-Standard input: for a database the word 1, its length and its bytes; for a question the word 2, a root page and how many words
-more, or fewer, than the rows take the list has. An answer has the refusal and the count of the counting call and of the
+Standard input: for a database the word 1, its length and its bytes; for a question the word 2, or 3 for the others, a root page and
+how many words more, or fewer, than the rows of the walk take the list has. An answer has the refusal and the count of the counting call and of the
 listing one, whether the list is as it was but for the rows, and the rows, three words each.
 """
 import array
@@ -14,7 +15,8 @@ import lent
 
 WORK = lent.ROOT / "target" / "listed"
 # A refusal is number, mark, page, cell and column. `rows` is one array, three words a row.
-Asked = namedtuple("Asked", "root more")
+ROWS, TRUSTED = 2, 3
+Asked = namedtuple("Asked", "what root more")
 Answer = namedtuple("Answer", "counted count listed listed_count kept rows")
 WORDS = struct.Struct("<13Q")
 ROW = 3
@@ -36,7 +38,7 @@ def answers(command, cases):
     with open(stream, "wb") as out:
         for data, asked in cases:
             out.write(lent.database(data))
-            out.writelines(struct.pack("<QQq", 2, *one) for one in asked)
+            out.writelines(struct.pack("<QQq", *one) for one in asked)
     counts = [len(asked) for _, asked in cases]
     with open(stream, "rb") as given, subprocess.Popen(command, stdin=given, stdout=subprocess.PIPE) as run:
         told = [answer(run.stdout) for _ in range(sum(counts))]

@@ -242,7 +242,11 @@ extern "C" {
     ) -> LentRow;
     fn shorgavel_table_count(db: *const u8, length: usize, root: u32) -> RowsAnswer;
     fn shorgavel_table_rows(db: *const u8, length: usize, root: u32, list: *mut Place, words: usize) -> RowsAnswer;
+    fn shorgavel_trusted_rows(db: *const u8, length: usize, root: u32, list: *mut Place, words: usize) -> RowsAnswer;
 }
+
+/// A call that lists rows of the table at a root page.
+type Listing = unsafe extern "C" fn(*const u8, usize, u32, *mut Place, usize) -> RowsAnswer;
 
 /// The header's fields, or the first check that fails.
 pub fn header(db: &[u8], reading: u8) -> HeaderAnswer {
@@ -359,15 +363,31 @@ pub fn table_count(db: &[u8], root: u32) -> RowsAnswer {
 
 /// The same, and the rows in the list, in place of those that were there, if they fit without its growing.
 pub fn table_rows(db: &[u8], root: u32, list: &mut Vec<Place>) -> RowsAnswer {
+    // SAFETY: it is one of the two calls that list rows.
+    unsafe { rows_by(shorgavel_table_rows, db, root, list) }
+}
+
+/// The same, if the guarded reading shows each of the rows.
+pub fn trusted_rows(db: &[u8], root: u32, list: &mut Vec<Place>) -> RowsAnswer {
+    // SAFETY: it is the other.
+    unsafe { rows_by(shorgavel_trusted_rows, db, root, list) }
+}
+
+/// The list has the rows that a call stores.
+///
+/// # Safety
+///
+/// The call is `shorgavel_table_rows` or `shorgavel_trusted_rows`.
+unsafe fn rows_by(call: Listing, db: &[u8], root: u32, list: &mut Vec<Place>) -> RowsAnswer {
     let words = list.capacity() * PLACE_WORDS;
     list.clear();
-    // SAFETY: pointer and length are of one slice. The list has room for as many places as its capacity says, and its
-    // pointer is not null, also where there is no room. A place is three words and lies as words must, as the test below
-    // holds; so no more is written than is the list's, and it is lent alone.
-    let answer = unsafe { shorgavel_table_rows(db.as_ptr(), db.len(), root, list.as_mut_ptr(), words) };
+    // SAFETY: pointer and length are of one slice; any number names a page or is refused. The list has room for as many
+    // places as its capacity says, and its pointer is not null, also where there is no room. A place is three words and
+    // lies as words must, as the test below holds; so no more is written than is the list's, and it is lent alone.
+    let answer = unsafe { call(db.as_ptr(), db.len(), root, list.as_mut_ptr(), words) };
     debug_assert!(answer.count <= list.capacity());
-    // SAFETY: it is proved that so many rows are written, from the first place on, where nothing is refused, and that the
-    // count is 0 on a refusal, also on that of a list that is too short. Any three words are a place.
+    // SAFETY: of both calls it is proved that so many rows are written, from the first place on, where nothing is refused,
+    // and that the count is 0 on a refusal, also on that of a list that is too short. Any three words are a place.
     unsafe { list.set_len(answer.count) };
     answer
 }
@@ -422,6 +442,7 @@ mod tests {
         assert_eq!(entries(&[], 1, 1, &mut []).refused.number, 1);
         assert_eq!(table_count(&[], 1).refused.number, 1);
         assert_eq!(table_rows(&[], 1, &mut Vec::new()).refused.number, 1);
+        assert_eq!(trusted_rows(&[], 1, &mut Vec::new()).refused.number, 1);
     }
 
     /// A page of 512 bytes and one row, number 3, of a 5 (type 1) and a 7 (type 2).
@@ -484,17 +505,38 @@ mod tests {
     fn a_list_has_all_rows_or_none() {
         let bytes = one_row();
         assert_eq!((table_count(&bytes, 1).refused.number, table_count(&bytes, 1).count), (0, 1));
-        for places in 0..3 {
-            let mut list = Vec::with_capacity(places);
-            assert_eq!(list.capacity(), places);
-            list.resize(places, Place::new(9, 9, 9));
-            let answer = table_rows(&bytes, 1, &mut list);
-            let wanted: &[Place] = if places == 0 { &[] } else { &[Place::new(1, 0, 3)] };
-            assert_eq!((answer.count, &list[..], list.capacity()), (wanted.len(), wanted, places));
-            assert_eq!((answer.refused.number, answer.refused.page), if places == 0 { (19, 1) } else { (0, 0) });
+        for call in [table_rows, trusted_rows] {
+            for places in 0..3 {
+                let mut list = list_of(places);
+                let answer = call(&bytes, 1, &mut list);
+                let wanted: &[Place] = if places == 0 { &[] } else { &[Place::new(1, 0, 3)] };
+                assert_eq!((answer.count, &list[..], list.capacity()), (wanted.len(), wanted, places));
+                assert_eq!((answer.refused.number, answer.refused.page), if places == 0 { (19, 1) } else { (0, 0) });
+            }
+            let mut list = list_of(1);
+            assert_eq!((call(&bytes, 2, &mut list).refused.number, list.len()), (8, 0));
         }
-        let mut list = vec![Place::new(9, 9, 9)];
-        assert_eq!((table_rows(&bytes, 2, &mut list).refused.number, list.len()), (8, 0));
+    }
+
+    /// A type 9 in place of the 5: the row is listed, and not trusted.
+    #[test]
+    fn a_row_that_parts_leaves_no_list() {
+        let mut bytes = one_row();
+        bytes[507] = 9;
+        bytes[504] = 5;
+        bytes[509..].copy_from_slice(&[0, 7, 0]);
+        let (mut all, mut trusted) = (list_of(2), list_of(2));
+        assert_eq!((table_rows(&bytes, 1, &mut all).refused.number, all.len()), (0, 1));
+        let refused = trusted_rows(&bytes, 1, &mut trusted).refused;
+        assert_eq!((refused.number, refused.mark, refused.page, refused.cell), (21, 3, 1, 0));
+        assert_eq!((trusted.len(), trusted.capacity()), (0, 2));
+    }
+
+    fn list_of(places: usize) -> Vec<Place> {
+        let mut list = Vec::with_capacity(places);
+        assert_eq!(list.capacity(), places);
+        list.resize(places, Place::new(9, 9, 9));
+        list
     }
 
     /// No page is asked to be one that a call answered.

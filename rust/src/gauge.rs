@@ -77,7 +77,43 @@ impl<'a> Gauge<'a> {
 
     /// All rows of the table at a root page, which counts from 1: the rows alone, in the rising order of their numbers.
     pub fn table(&self, root: u32) -> Result<Table<'a>, Refusal> {
-        Table::of(self.bytes, root)
+        Table::walked(self.bytes, root)
+    }
+
+    /// All rows of the table at a root page, if old and file show each of them alike: in every listed row they have the same
+    /// row number, column count and values, and that is a theorem. So what was printed from the old reading may be held
+    /// against what the gauge wrote, row by row, and no row has to be judged again.
+    ///
+    /// Else nothing is listed. The refusal is the walk's, which [`Gauge::table`] answers too; or where there is none, that of
+    /// the first row, in the order of the walk, that the guarded reading refuses, with its page and cell. A row whose payload
+    /// spills is refused with 18, since the old reading does not follow it.
+    ///
+    /// ```
+    /// # // A page of two rows of one column, each a stored 0 (type 8).
+    /// # let mut bytes = vec![0; 512];
+    /// # bytes[..16].copy_from_slice(b"SQLite format 3\0");
+    /// # bytes[16..24].copy_from_slice(&[2, 0, 1, 1, 0, 64, 32, 32]);
+    /// # bytes[59] = 1;
+    /// # bytes[100..112].copy_from_slice(&[13, 0, 0, 0, 2, 1, 248, 0, 1, 252, 1, 248]);
+    /// # bytes[504..].copy_from_slice(&[2, 2, 2, 8, 2, 1, 2, 8]);
+    /// use shorgavel::{Gauge, Mark, Reading};
+    ///
+    /// let gauge = Gauge::new(&bytes);
+    /// let table = gauge.trusted(1)?;
+    /// for (old, file) in table.rows(Reading::Old).zip(table.rows(Reading::File)) {
+    ///     let (old, file) = (old.shown?, file.shown?);
+    ///     assert_eq!(old.rowid(), file.rowid());
+    ///     assert!(old.values().eq(file.values()));
+    /// }
+    ///
+    /// // Row 2 becomes a stored 1 (type 9), which old shows as 0.
+    /// bytes[507] = 9;
+    /// let refusal = Gauge::new(&bytes).trusted(1).unwrap_err();
+    /// assert_eq!((refusal.page(), refusal.cell(), refusal.mark()), (Some(1), Some(1), Some(Mark::TypeNine)));
+    /// # Ok::<(), shorgavel::Refusal>(())
+    /// ```
+    pub fn trusted(&self, root: u32) -> Result<Table<'a>, Refusal> {
+        Table::trusted(self.bytes, root)
     }
 
     /// How many rows the table at a root page has: the same walk, with no list made of them.

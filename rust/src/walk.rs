@@ -40,12 +40,24 @@ pub struct Table<'a> {
     places: Vec<Place>,
 }
 
+/// A call that lists rows.
+type Listing = fn(&[u8], u32, &mut Vec<Place>) -> calls::RowsAnswer;
+
 impl<'a> Table<'a> {
-    /// The rows are counted first, so that the list is allocated once.
-    pub(crate) fn of(bytes: Bytes<'a>, root: u32) -> Result<Table<'a>, Refusal> {
+    /// All rows that the walk finds.
+    pub(crate) fn walked(bytes: Bytes<'a>, root: u32) -> Result<Table<'a>, Refusal> {
+        Table::of(bytes, root, calls::table_rows)
+    }
+
+    /// The same, where both readings show all of them alike.
+    pub(crate) fn trusted(bytes: Bytes<'a>, root: u32) -> Result<Table<'a>, Refusal> {
+        Table::of(bytes, root, calls::trusted_rows)
+    }
+
+    /// The rows are counted first, so that the list is allocated once: by the walk alone, so that none is judged twice.
+    fn of(bytes: Bytes<'a>, root: u32, list: Listing) -> Result<Table<'a>, Refusal> {
         let mut places = Vec::with_capacity(Gauge::new(bytes.0).count_rows(root)?);
-        let listed = calls::table_rows(bytes.0, root, &mut places);
-        Refusal::check(&listed.refused)?;
+        Refusal::check(&list(bytes.0, root, &mut places).refused)?;
         Ok(Table { bytes, root, places })
     }
 

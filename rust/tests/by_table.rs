@@ -219,9 +219,14 @@ fn half_a_file_is_told() {
     let mut bytes = named(long_notes(), "notes", 2);
     put(&mut bytes, 28, &[0, 0, 0, 9]);
     let said = "shorgavel: the file is cut: 8 of its 9 pages are there\n";
-    for words in
-        [&["tables", "-"][..], &["rows", "-"], &["rows", "-", "--table", "2"], &["compare", "-"], &["sheet", "-"]]
-    {
+    for words in [
+        &["trust", "-"][..],
+        &["tables", "-"],
+        &["rows", "-"],
+        &["rows", "-", "--table", "2"],
+        &["compare", "-"],
+        &["sheet", "-"],
+    ] {
         let output = fed(words, &bytes);
         assert_eq!((err(&output), status(&output)), (said, 4), "{words:?}");
     }
@@ -256,7 +261,7 @@ fn a_log_beside_the_file_is_told() {
     assert_eq!(file.show(&["rows"]).stderr, plain.stderr);
     fs::write(&log, b"x").unwrap();
     let said = "shorgavel: the last writes are in logged.db-wal, beside the file: they are not read\n";
-    for words in [&["header"][..], &["page", "1"], &["tables"], &["rows"], &["compare"], &["sheet"]] {
+    for words in [&["trust"][..], &["header"], &["page", "1"], &["tables"], &["rows"], &["compare"], &["sheet"]] {
         let output = file.show(words);
         assert!(err(&output).starts_with(said), "{words:?}");
     }

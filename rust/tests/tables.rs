@@ -5,7 +5,7 @@ mod common;
 use common::trees::{index, interior, leaf, odd_row, row, schema, schema_row, two_leaves};
 use common::{long_notes, note, pages, put};
 use shorgavel::Reading::{File, Guarded, Old};
-use shorgavel::{Gauge, Named, Notes, Place, Reading, Refusal, Root, TextEncoding, Unreadable, Value};
+use shorgavel::{Gauge, Mark, Named, Notes, Place, Reading, Refusal, Root, TextEncoding, Unreadable, Value};
 
 fn places(places: &[Place]) -> Vec<(u32, usize, i64)> {
     places.iter().map(|place| (place.page(), place.cell(), place.rowid())).collect()
@@ -210,4 +210,59 @@ fn a_root_that_is_not_there_is_told_by_the_walk() {
     assert_eq!(refused(&bytes, 99), (8, Some(99), None));
     index(&mut bytes, 2);
     assert_eq!(Gauge::new(&bytes).schema().unwrap().tables[2].root, Root::Keyed(2));
+}
+
+/// The refusal of a table that is not trusted.
+fn parted(bytes: &[u8], root: u32) -> (u8, Option<u32>, Option<usize>, Option<Mark>) {
+    let refusal = Gauge::new(bytes).trusted(root).unwrap_err();
+    (refusal.number(), refusal.page(), refusal.cell(), refusal.mark())
+}
+
+/// Two leaves with no row that parts.
+fn agreeing() -> Vec<u8> {
+    let mut bytes = two_leaves();
+    leaf(&mut bytes, 4, &[row(1, 10), row(2, 11)]);
+    bytes
+}
+
+#[test]
+fn a_table_that_agrees_is_trusted() {
+    let bytes = agreeing();
+    let gauge = Gauge::new(&bytes);
+    let table = gauge.trusted(2).unwrap();
+    assert_eq!((table.root(), table.len()), (2, 4));
+    assert_eq!(places(table.places()), places(gauge.table(2).unwrap().places()));
+    for (old, file) in table.rows(Old).zip(table.rows(File)) {
+        let (old, file) = (old.shown.unwrap(), file.shown.unwrap());
+        assert_eq!((old.rowid(), old.columns()), (file.rowid(), file.columns()));
+        assert!(old.values().eq(file.values()));
+    }
+    // The schema agrees, and so does a table with no row.
+    assert_eq!(gauge.trusted(1).unwrap().len(), 3);
+    assert!(Gauge::new(&pages(1)).trusted(1).unwrap().is_empty());
+}
+
+/// The first in the order of the walk, which is not that of the file.
+#[test]
+fn the_first_row_that_parts_is_told() {
+    assert_eq!(parted(&two_leaves(), 2), (21, Some(4), Some(0), Some(Mark::LongVarint)));
+    assert_eq!(parted(&two_leaves(), 5), (21, Some(5), Some(0), Some(Mark::TypeNine)));
+    let mut bytes = agreeing();
+    leaf(&mut bytes, 3, &[row(7, 12), (9, vec![2, 9])]);
+    assert_eq!(parted(&bytes, 2), (21, Some(3), Some(1), Some(Mark::TypeNine)));
+    leaf(&mut bytes, 4, &[row(1, 10), (2, vec![2, 13])]);
+    assert_eq!(parted(&bytes, 2), (21, Some(4), Some(1), Some(Mark::NoBytes)));
+    // What file refuses is no mark, and what spills is refused for that.
+    leaf(&mut bytes, 4, &[(1, vec![2, 10]), (2, vec![2, 13])]);
+    assert_eq!(parted(&bytes, 2), (15, Some(4), Some(0), None));
+    assert_eq!(parted(&long_notes(), 2), (18, Some(2), Some(0), None));
+}
+
+#[test]
+fn the_walk_is_refused_before_a_row() {
+    let mut bytes = two_leaves();
+    interior(&mut bytes, 2, &[(4, 1)], 3);
+    assert_eq!(parted(&bytes, 2), (27, Some(4), Some(1), None));
+    assert_eq!(parted(&bytes, 9), (8, Some(9), None, None));
+    assert_eq!(parted(&[], 1), (1, None, None, None));
 }

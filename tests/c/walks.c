@@ -4,33 +4,16 @@
  * The database has six pages of 512 bytes: page 2 is the root of a table, an interior page with the key 2, and leads to the leaves
  * 4 and 3; page 6 is a leaf index. Of the record of a row only its size is looked at.
  */
-#include <string.h>
-
 #include "check.h"
 #include "shorgavel.h"
+#include "tree.h"
 
-enum { SIZE = 512, PAGES = 6, ROOT = 2, ROWS = 4, ROW = 3, WORDS = 32 };
-
-static uint8_t db[PAGES * SIZE];
 static size_t length = sizeof db;
-static int64_t list[WORDS];
 
 static const int64_t rows[ROWS * ROW] = {4, 0, -5, 4, 1, 2, 3, 0, 7, 3, 1, 9};
 
-/* THE DATABASE */
-
-static uint8_t *page_at(uint32_t page) { return db + (page - 1) * SIZE; }
-
-static void put(uint8_t *at, const char *bytes, size_t count) { memcpy(at, bytes, count); }
-
 static void write_database(void) {
-    memset(db, 0, sizeof db);
-    put(db, "SQLite format 3", 16);
-    put(db + 16, "\x02\x00\x01\x01\x00\x40\x20\x20", 8);
-    db[59] = 1;
-    put(db + 100, "\x0d\0\0\0\0\x02\0\0", 8);
-    put(page_at(2), "\x05\0\0\0\x01\x01\xfb\0\0\0\0\x03\x01\xfb", 14);
-    put(page_at(2) + 507, "\0\0\0\x04\x02", 5);
+    write_root();
     put(page_at(4), "\x0d\0\0\0\x02\x01\xee\0\x01\xf3\x01\xee", 12);
     /* Row -5, a varint of nine bytes, and row 2. */
     put(page_at(4) + 499, "\x03\xff\xff\xff\xff\xff\xff\xff\xff\xfb\x02\x01\x07", 13);
@@ -39,20 +22,6 @@ static void write_database(void) {
     put(page_at(3) + 507, "\x03\x07\x02\x01\x07", 5);
     put(page_at(3) + 502, "\x03\x09\x02\x01\x07", 5);
     put(page_at(6), "\x0a\0\0\0\0\x02\0\0", 8);
-}
-
-/* THE LIST */
-
-static void fresh(void) { memset(list, 0xee, sizeof list); }
-
-/* So many words, and behind them what was there. */
-static int holds(const int64_t *words, size_t count) {
-    int64_t blank;
-    memset(&blank, 0xee, sizeof blank);
-    for (size_t i = count; i < WORDS; i++) {
-        if (list[i] != blank) return 0;
-    }
-    return memcmp(list, words, count * sizeof *words) == 0;
 }
 
 /* Both calls refuse the table with this number and place, and the list is as it was. */

@@ -15,7 +15,8 @@ use Rattle.page.specs.Open as page
 use Rattle.page.specs.Open.{openAnswer}
 use Rattle.cells.specs.Located.{locatedOf}
 use Rattle.walk.specs.Counted.{countOf}
-use Rattle.listing.specs.Listed.{listOf, listIn}
+use Rattle.trust.specs.Trust.{trustedCount}
+use Rattle.listing.specs.Listed.{listOf, trustedOf, listIn}
 use Rattle.table.specs.declared.Entry.{Entry}
 use Rattle.table.specs.Entry.{entryFor, filled}
 use Rattle.table.specs.Page as table
@@ -64,6 +65,16 @@ listedRows places root db = listedBy (listOf places root db)
 
 abbrev pub rowsOver : ℕ → ℕ → List ℕ → List ℤ → List ℤ
 rowsOver places root db list = listIn (listOf places root db) root db list
+
+-- of one that both may trust
+abbrev pub countedTrusted : ℕ → List ℕ → Listed
+countedTrusted root db = listedBy (trustedCount root db)
+
+abbrev pub listedTrusted : ℕ → ℕ → List ℕ → Listed
+listedTrusted places root db = listedBy (trustedOf places root db)
+
+abbrev pub trustedOver : ℕ → ℕ → List ℕ → List ℤ → List ℤ
+trustedOver places root db list = listIn (trustedOf places root db) root db list
 
 -- A PAGE
 

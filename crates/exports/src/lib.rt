@@ -14,7 +14,7 @@ ghost use Rattle.pages.specs.Pages.{openOf};
 ghost use Rattle.filled.specs.Run.{filledBy, over};
 ghost use Rattle.filled.specs.Row.{rowBy, rowOver};
 ghost use Rattle.gathered.specs.Rows.{rowLent, tableLent, bufferLent};
-ghost use Rattle.exports.specs.Calls.{headerOf, pagesOf, countedRows, listedRows, rowsOver, headOf, entryOf, entriesOver, openingOf, rowIn, oldCell, fileCell, guardedCell, oldRun, fileRun, oldShownOf, fileShownOf, guardedShownOf, fileLentOf, guardedLentOf, cellLent};
+ghost use Rattle.exports.specs.Calls.{headerOf, pagesOf, countedRows, listedRows, rowsOver, countedTrusted, listedTrusted, trustedOver, headOf, entryOf, entriesOver, openingOf, rowIn, oldCell, fileCell, guardedCell, oldRun, fileRun, oldShownOf, fileShownOf, guardedShownOf, fileLentOf, guardedLentOf, cellLent};
 use columns::Cursor;
 use filled::run;
 use reading::Reading;
@@ -103,6 +103,23 @@ pub extern "C" fn shorgavel_table_rows(db: &[u8], root: u32, list: &mut [i64]) -
         × (now (list .exit) ≡ rowsOver (length (now (list .entry)) / 3) root (now (db .entry)) (now (list .entry))) ⌝ }
 {
     pages::listed_by(listing::list(db, root, list))
+}
+
+// The same two of a table that both may trust: the walk accepts it, and the guarded reading refuses none of its rows. What the
+// walk refuses is told first, a list that is too short with it, and else the first row that the guarded reading refuses.
+#[no_mangle]
+pub extern "C" fn shorgavel_trusted_count(db: &[u8], root: u32) -> Listed
+    ensures { λ r. ⌜ r ≡ countedTrusted root (now (db .entry)) ⌝ }
+{
+    pages::listed_by(trust::count(db, root))
+}
+
+#[no_mangle]
+pub extern "C" fn shorgavel_trusted_rows(db: &[u8], root: u32, list: &mut [i64]) -> Listed
+    ensures { λ r. ⌜ (r ≡ listedTrusted (length (now (list .entry)) / 3) root (now (db .entry)))
+        × (now (list .exit) ≡ trustedOver (length (now (list .entry)) / 3) root (now (db .entry)) (now (list .entry))) ⌝ }
+{
+    pages::listed_by(listing::trusted(db, root, list))
 }
 
 // A PAGE THAT IS OPENED, for its cells one after the other: 2 is guarded, which opens table leaves alone

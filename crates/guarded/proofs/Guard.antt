@@ -18,7 +18,7 @@ use Rattle.page.specs.declared.Site.{Site}
 use Rattle.page.specs.declared.Open.{Open}
 use Rattle.page.specs.Open as page
 use Rattle.page.specs.Open.{onPage, siteOf, openFrom}
-use Rattle.page.proofs.Sites.{opening, open-site}
+use Rattle.page.proofs.Sites.{opening, open-site, steps}
 use Rattle.cells.specs.Located as cells
 use Rattle.cells.specs.Located.{Located}
 use Rattle.cells.proofs.Laws.{located-open, located-unopened}
@@ -64,6 +64,13 @@ module _ (n : ℕ) (db : List ℕ) where
           → (page.openOf (filePage n) db ≡ shown o) × (o .kind ≡ LeafTable)
       by-site (refused refusal) i d = never cc
       by-site (shown s) i d = by-kind s i (isLeafTable (s .kind)) refl d
+
+  -- and a table leaf that the file reading opens is opened
+  pub leaf-opens : {o : Open} → page.openOf (filePage n) db ≡ shown o → o .kind ≡ LeafTable → openOf n db ≡ shown o
+  leaf-opens e k =
+      let t = steps (filePage n) db e in
+      let kind = ap (λ (x : Open). x .kind) (opening (t .site) db (t .second) .is) in
+      site-leaf (t .first) (ap isLeafTable (sym kind ∙ k)) ∙ t .second
 
 -- A CELL OF IT
 

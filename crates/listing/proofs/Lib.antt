@@ -1,3 +1,2 @@
-pub mod Told
 pub mod Storing
-pub mod Whole
+pub mod Parted

@@ -14,6 +14,9 @@ use Rattle.walk.specs.declared.CountAnswer.the-variants.{Shown, Refused}
 use Rattle.walk.specs.Walk.{Row, rowsOf}
 use Rattle.walk.specs.Tree.{tableOf}
 use Rattle.walk.specs.Counted.{countOf}
+use Rattle.trust.specs.declared.Trust.{Trust}
+use Rattle.trust.specs.declared.Trust.the-variants as tr
+use Rattle.trust.specs.Trust.{trustOf}
 
 -- a row in words of 64 bits
 abbrev pub wordsOf : ℕ → ℕ → ℤ → List ℤ
@@ -23,13 +26,25 @@ abbrev pub words : List Row → List ℤ
 words [] = []
 words (r ∷ rows) = wordsOf (r .page) (r .cell) (r .number) ++ words rows
 
+abbrev pub tooShort : ℕ → CountAnswer
+tooShort root = Refused (OnPage root re.TableTooShort)
+
 -- so many rows, where there are so many places
 abbrev pub within : ℕ → ℕ → CountAnswer → CountAnswer
 within places root (Refused r) = Refused r
-within places root (Shown n) = pick (ltb places n) (Refused (OnPage root re.TableTooShort)) (Shown n)
+within places root (Shown n) = pick (ltb places n) (tooShort root) (Shown n)
 
 abbrev pub listOf : ℕ → ℕ → List ℕ → CountAnswer
 listOf places root db = within places root (countOf root db)
+
+-- the same of a table that both may trust: a list that is too short is the walk's refusal, and comes before a row's
+abbrev pub trustedBy : ℕ → ℕ → Trust → CountAnswer
+trustedBy places root (tr.Refused r) = Refused r
+trustedBy places root (tr.Parts n r) = pick (ltb places n) (tooShort root) (Refused r)
+trustedBy places root (tr.Agrees n) = within places root (Shown n)
+
+abbrev pub trustedOf : ℕ → ℕ → List ℕ → CountAnswer
+trustedOf places root db = trustedBy places root (trustOf root db)
 
 -- the list at the end: the rows, and behind them what it held; as it was on a refusal
 abbrev pub filledWith : CountAnswer → List Row → List ℤ → List ℤ

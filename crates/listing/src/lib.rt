@@ -1,44 +1,23 @@
-// All rows of a table in a list that is lent: the walk counts them once all of it is checked, and a second walk stores them.
+// All rows of a table in a list that is lent: the walk counts them once all of it is checked, and a second walk stores them. Of a
+// table that both may trust the same.
 //
 // The second walk checks nothing again: that an accepted table has just these rows is proved of the first.
 ghost use mathlib.Core.Path.{_≡_};
 ghost use Prim.Native.Nat.{_+_, _/_, _≤_};
 ghost use lib.ListN.{length};
 ghost use lib.Seq.{sets};
-ghost use Rattle.cells.specs.Numbered.{numbersIn};
-ghost use Rattle.keys.specs.Key.{keyIn};
-ghost use Rattle.listing.specs.Rows.{numberBy, childBy, leafRows, allRows};
-ghost use Rattle.listing.specs.Listed.{wordsOf, words, listOf, listIn};
+ghost use Rattle.standing.specs.Rows.{leafRows, allRows};
+ghost use Rattle.walk.specs.declared.CountAnswer.the-variants.{Shown};
+ghost use Rattle.walk.specs.Counted.{countOf};
+ghost use Rattle.listing.specs.Listed.{wordsOf, words, tooShort, within, listOf, trustedOf, listIn};
 use answers::Reason;
 use answers::Refusal;
-use cells::NumberedAnswer;
 use fields::signed_of;
-use keys::KeyAnswer;
 use page::Open;
+use place::Page;
+use trust::Trust;
 use walk::CountAnswer;
 use walk::Table;
-
-// The row number of cell `i` of a leaf; 0 where there is none.
-fn number_in(db: &[u8], opened: Open, i: usize) -> i64
-    ensures { λ r. ⌜ r ≡ numberBy (keyIn opened i (now (db .entry))) ⌝ }
-{
-    let answer = keys::key_in(db, opened, i);
-    match answer {
-        KeyAnswer::Refused(_) => 0,
-        KeyAnswer::Shown(number) => number,
-    }
-}
-
-// The child of cell `i` of an interior page; 0 where there is none.
-fn child_in(db: &[u8], opened: Open, i: usize) -> u32
-    ensures { λ r. ⌜ r ≡ childBy (numbersIn opened i (now (db .entry))) ⌝ }
-{
-    let answer = cells::numbers_in(db, opened, i);
-    match answer {
-        NumberedAnswer::Refused(_) => 0,
-        NumberedAnswer::Shown(numbers) => numbers.child,
-    }
-}
 
 // Stores a row from a place on.
 fn put(list: &mut [i64], at: usize, page: u32, cell: usize, number: i64)
@@ -58,13 +37,13 @@ fn leaf_rows(db: &[u8], opened: Open, at: usize, list: &mut [i64]) -> usize
     ensures { λ r. ⌜ (r ≡ at + length (words (leafRows opened (now (db .entry)) (opened .cells) 0)))
         × (now (list .exit) ≡ sets (now (list .entry)) at (words (leafRows opened (now (db .entry)) (opened .cells) 0))) ⌝ }
 {
-    let named = opened.page;
+    let named: Page = opened.page;
     let page = named.number;
     let cells = opened.cells;
     let mut next = at;
     let mut i: usize = 0;
     while i < cells {
-        let number = number_in(db, opened, i);
+        let number = standing::number_in(db, opened, i);
         put(list, next, page, i, number);
         next = next + 3;
         i = i + 1;
@@ -94,7 +73,7 @@ fn rows(db: &[u8], page: u32, depth: usize, at: usize, list: &mut [i64]) -> usiz
             let mut next = at;
             let mut i: usize = 0;
             while i < cells {
-                let child = child_in(db, opened, i);
+                let child = standing::child_in(db, opened, i);
                 next = rows(db, child, depth - 1, next, list);
                 i = i + 1;
             }
@@ -104,27 +83,60 @@ fn rows(db: &[u8], page: u32, depth: usize, at: usize, list: &mut [i64]) -> usiz
     }
 }
 
+fn too_short(root: u32) -> CountAnswer
+    ensures { λ r. ⌜ r ≡ tooShort root ⌝ }
+{
+    CountAnswer::Refused(Refusal::OnPage {
+        page: root,
+        reason: Reason::TableTooShort,
+    })
+}
+
+// Stores the rows of a table that was counted, where there are places for all of them.
+fn fill(db: &[u8], root: u32, count: usize, list: &mut [i64]) -> CountAnswer
+    requires { ⌜ countOf root (now db) ≡ Shown count ⌝ }
+    ensures { λ r. ⌜ (r ≡ within (length (now (list .entry)) / 3) root (Shown count))
+        × (now (list .exit) ≡ listIn r root (now (db .entry)) (now (list .entry))) ⌝ }
+{
+    let places = list.len() / 3;
+    if places < count {
+        return too_short(root);
+    }
+    rows(db, root, walk::DEPTH, 0, list);
+    CountAnswer::Shown(count)
+}
+
 // The rows of the table whose root that page is, three words each: page, cell, row number. Where it is refused, nothing is
 // written.
 pub fn list(db: &[u8], root: u32, list: &mut [i64]) -> CountAnswer
     ensures { λ r. ⌜ (r ≡ listOf (length (now (list .entry)) / 3) root (now (db .entry)))
         × (now (list .exit) ≡ listIn r root (now (db .entry)) (now (list .entry))) ⌝ }
 {
-    let places = list.len() / 3;
     let counted = walk::count(db, root);
     match counted {
-        CountAnswer::Refused(refusal) => {
-            return CountAnswer::Refused(refusal);
-        }
-        CountAnswer::Shown(count) => {
-            if places < count {
-                return CountAnswer::Refused(Refusal::OnPage {
-                    page: root,
-                    reason: Reason::TableTooShort,
-                });
+        CountAnswer::Refused(refusal) => CountAnswer::Refused(refusal),
+        CountAnswer::Shown(count) => fill(db, root, count, list),
+    }
+}
+
+// The same of a table that both may trust. A list that is too short is told before a row that is refused.
+pub fn trusted(db: &[u8], root: u32, list: &mut [i64]) -> CountAnswer
+    ensures { λ r. ⌜ (r ≡ trustedOf (length (now (list .entry)) / 3) root (now (db .entry)))
+        × (now (list .exit) ≡ listIn r root (now (db .entry)) (now (list .entry))) ⌝ }
+{
+    let places = list.len() / 3;
+    let trust = trust::of_table(db, root);
+    match trust {
+        Trust::Refused(refusal) => CountAnswer::Refused(refusal),
+        Trust::Parts {
+            rows: listed,
+            first,
+        } => {
+            if places < listed {
+                return too_short(root);
             }
-            rows(db, root, walk::DEPTH, 0, list);
-            return CountAnswer::Shown(count);
+            CountAnswer::Refused(first)
         }
+        Trust::Agrees(count) => fill(db, root, count, list),
     }
 }

@@ -22,7 +22,7 @@ use Rattle.walk.specs.declared.CountAnswer.the-variants.{Shown}
 use Rattle.walk.specs.Walk.{Row, Walk, refused, went, row, page, rowsOf, pagesOf}
 use Rattle.walk.specs.Tree.{tableOf}
 use Rattle.walk.specs.Counted.{countOf}
-use Rattle.listing.specs.Rows.{allRows}
+use Rattle.standing.specs.Rows.{allRows}
 
 -- THEOREM: row numbers rise strictly
 
@@ -74,7 +74,7 @@ VisitsEnd = (n : ℕ) (db : List ℕ) (shape : Shape) → shapeOf file db ≡ an
 -- THEOREM: an accepted walk has every row that stands in the table
 
 abbrev pub EveryRow : Type 0
-EveryRow = (n : ℕ) (db : List ℕ) (m : ℕ) → countOf n db ≡ Shown m → m < 18446744073709551615 → rowsOf (tableOf n db) ≡ allRows 20 db n
+EveryRow = (n : ℕ) (db : List ℕ) (m : ℕ) → countOf n db ≡ Shown m → rowsOf (tableOf n db) ≡ allRows 20 db n
 
 -- THEOREM: of a table that is accepted every cell of every leaf that is visited is listed
 

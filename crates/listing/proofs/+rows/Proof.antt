@@ -15,13 +15,14 @@ use Rattle.walk.specs.Table.{tableAt, lastChild}
 use Rattle.walk.proofs.Pages.{table-opens, few-cells}
 use Rattle.walk.proofs.table_at.Reads as table-at
 use Rattle.walk.proofs.last_child.Reads as last-child
-use Rattle.listing.specs.Rows.{childBy, childRows, allRows}
+use Rattle.standing.specs.Rows.{childBy, childRows, allRows}
 use Rattle.listing.specs.Listed.{words}
-use Rattle.listing.proofs.Storing.{Held, held, held-on, held-last, held-room, held-last-room, child-next, child-last, rows-none, rows-page}
+use Rattle.standing.proofs.Steps.{child-next, child-last, rows-none, rows-page}
+use Rattle.listing.proofs.Storing.{Held, held, held-on, held-last, held-room, held-last-room}
 use Rattle.listing.proofs.rows.Reads as rows
 use Rattle.listing.proofs.rows.Kinds as rows-kinds
 use Rattle.listing.proofs.+rows.Lts-rows as lts
-use Rattle.listing.proofs.child_in.Reads as child-in
+use Rattle.standing.proofs.child_in.Reads as child-in
 use Rattle.listing.proofs.leaf_rows.Reads as leaf-rows
 use Rattle.listing.proofs.+rows.{statement}
 use Rattle.listing.proofs.+rows.Tie.{close}

@@ -7,8 +7,9 @@ use native.Mathlib.Omega.{arith}
 use denote.Ref.{now}
 use mir.Syntax.{w64}
 use mir.Facts.{toZ-ofZ}
-use Rattle.listing.specs.Rows.{rowAt, leafRows}
-use Rattle.listing.proofs.Storing.{Held, held, held-on, held-last, leaf-next, leaf-none}
+use Rattle.standing.specs.Rows.{rowAt, leafRows}
+use Rattle.standing.proofs.Steps.{leaf-next, leaf-none}
+use Rattle.listing.proofs.Storing.{Held, held, held-on, held-last}
 use borrow.Author.Needs.{needs}
 use Rattle.listing.proofs.leaf_rows.Statement.{statement}
 use Rattle.listing.proofs.leaf_rows.Tie as tie

@@ -12,6 +12,7 @@ is what the gauge wrote; guarded shows a row only where the two agree.
 Usage: shorgavel COMMAND FILE
 
 Commands:
+  trust FILE     table by table, whether the printed sheets and the gauge say the same in every row
   header FILE    the fields of the database header, in the old and the file reading
   page FILE N    the head of page N and the entries of its cells
   tables FILE    the tables: a line each with root page, number of rows and name
@@ -32,20 +33,23 @@ and from 0 in `page` with --reading old; cells and columns count from 0.
 
 `tables` has a line for each table, and below it what there is to say of it, indented. Where its rows cannot be listed, a
 word stands for their number: `refused`, a damaged tree; `keyed`, a table without row numbers; `virtual`, one without pages.
-`compare` and `sheet` go table by table. Pages of no table, which were deleted or are damaged, are told apart and do not count.
+`trust`, `compare` and `sheet` go table by table. Pages of no table, which were deleted or are damaged, do not count; the
+last two tell them apart. `trust` says of each table that all of its rows agree, or which is the first that parts, and why.
 
 Exit status:
-  0  done; for `compare`, rows of all tables were compared and none parts
-  1  the database, the page or the table is refused; for `compare`, a row parts or a table is refused
+  0  done; for `compare`, rows of all tables were compared and none parts; for `trust`, every row of all tables agrees
+  1  the database, the page or the table is refused; for `compare` and `trust`, a row parts or a table is refused; for
+     `trust`, a row is refused by old and file alike
   2  the words of the command are wrong
   3  a file cannot be read or written
-  4  the file is cut: only some of its pages are there, and these were shown (`tables`, `rows`, `compare`, `sheet`)
-  5  for `compare`, there is no row to compare
+  4  the file is cut: only some of its pages are there, and these were shown (all but `header` and `page`)
+  5  for `compare` and `trust`, there is no row to compare
 ";
 
 /// What is asked for.
 pub enum Order {
     Say(String),
+    Trust(OsString),
     Header(OsString),
     Page(OsString, u32, Reading),
     Tables(OsString),
@@ -99,6 +103,7 @@ fn order(words: Words) -> Result<Order, Failure> {
     let name = command.to_string_lossy().into_owned();
     let mut next = |what: &str| plain.next().ok_or_else(|| wrong(format!("{name}: {what} is missing")));
     let order = match name.as_str() {
+        "trust" => Order::Trust(next("FILE")?),
         "header" => Order::Header(next("FILE")?),
         "page" => Order::Page(next("FILE")?, number(&next("N")?)?, words.reading.unwrap_or(Reading::File)),
         "tables" => Order::Tables(next("FILE")?),

@@ -28,7 +28,7 @@ pub fn show(database: &Database, out: &mut Out) -> Result<(), Failure> {
     }
     let Count { cells, parted, refused } = count;
     writeln!(out, "{cells} cells compared: {parted} part, {refused} are refused by old and file alike")?;
-    verdict(&count, &trees)
+    trees.verdict(parted, cells)
 }
 
 /// What pages are compared with.
@@ -68,22 +68,5 @@ fn apart(trees: &Trees, out: &mut Out) -> io::Result<()> {
             writeln!(out, "table {} is not compared: {}", words::plain(&tree.named.name), why.words())?;
         }
     }
-    match trees.unread.as_slice() {
-        [] => Ok(()),
-        [one] => writeln!(out, "{}", words::unread(one)),
-        [first, more @ ..] => writeln!(out, "{} (and {} more rows)", words::unread(first), more.len()),
-    }
-}
-
-/// Content is who has compared something, and all that there is.
-fn verdict(count: &Count, trees: &Trees) -> Result<(), Failure> {
-    if count.parted > 0 {
-        Err(Failure::Parted)
-    } else if trees.is_partial() {
-        Err(Failure::Uncompared)
-    } else if count.cells == 0 {
-        Err(Failure::Nothing)
-    } else {
-        Ok(())
-    }
+    words::all_unread(&trees.unread).map_or(Ok(()), |unread| writeln!(out, "{unread}"))
 }

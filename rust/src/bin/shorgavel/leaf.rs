@@ -1,4 +1,4 @@
-//! A table leaf in the three readings, for `compare` and `sheet`.
+//! A table leaf in the three readings, for `trust`, `compare` and `sheet`.
 
 use shorgavel::{Cell, Gauge, Notes, Page, Reading, Refusal};
 

@@ -16,6 +16,7 @@ mod reason;
 mod sheet;
 mod tables;
 mod trees;
+mod trust;
 mod words;
 
 use args::Order;
@@ -46,6 +47,7 @@ fn show(order: Order, out: &mut Out) -> Result<(), Failure> {
             out.text(text.as_bytes());
             Ok(())
         }
+        Order::Trust(file) => whole(&file, |database| trust::show(database, out)),
         Order::Header(file) => header::show(&Database::read(&file)?, out),
         Order::Page(file, number, reading) => page::show(&Database::read(&file)?, number, reading, out),
         Order::Tables(file) => whole(&file, |database| tables::show(database, out)),

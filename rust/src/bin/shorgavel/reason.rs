@@ -34,18 +34,16 @@ fn meaning(refusal: Refusal) -> &'static str {
 
 fn differ(place: &str, old: &Cell<'_>, file: &Cell<'_>, guarded: Refusal, encoding: TextEncoding) -> Vec<String> {
     let meaning = meaning(guarded);
-    if old.rowid() != file.rowid() || old.columns() != file.columns() {
+    if !are_alike(old, file) {
         let mut line = format!("{place}: {meaning}: old shows ");
         words::row(&mut line, old, encoding);
         line.push_str(", the gauge wrote ");
         words::row(&mut line, file, encoding);
         return vec![line];
     }
-    let pairs = old.values().zip(file.values()).enumerate();
-    let differing = pairs.filter(|(_, (shown, wrote))| shown != wrote);
-    let lines: Vec<_> = differing
-        .map(|(column, (shown, wrote))| {
-            let why = of_value(guarded.mark(), wrote).unwrap_or(meaning);
+    let lines: Vec<_> = differing(old, file)
+        .map(|(column, shown, wrote)| {
+            let why = Cause::of(guarded.mark(), wrote).map_or(meaning, Cause::words);
             let mut line = format!("{place} column {column}: {why}: old shows ");
             words::value(&mut line, shown, encoding);
             line.push_str(", the gauge wrote ");
@@ -59,14 +57,47 @@ fn differ(place: &str, old: &Cell<'_>, file: &Cell<'_>, guarded: Refusal, encodi
     lines
 }
 
-/// Why one value differs. With marks 1 and 2 columns may be shifted, and a value tells nothing by itself.
-fn of_value(mark: Option<Mark>, wrote: Value<'_>) -> Option<&'static str> {
-    match (mark?, wrote) {
-        (Mark::LongVarint | Mark::LongHeaderSize, _) => None,
-        (Mark::TypeNine, Value::Integer(1)) => Some("type 9"),
-        (_, Value::Text([])) => Some("an empty text"),
-        (_, Value::Blob([])) => Some("an empty blob"),
-        // In a row that is whole nothing else differs: old looks for this value where the payload goes on elsewhere.
-        _ => Some(Mark::Spills.meaning()),
+/// Whether two rows have one number, and as many columns.
+pub fn are_alike(old: &Cell<'_>, file: &Cell<'_>) -> bool {
+    old.rowid() == file.rowid() && old.columns() == file.columns()
+}
+
+/// The columns in which two such rows differ, with both values.
+pub fn differing<'c>(
+    old: &'c Cell<'_>,
+    file: &'c Cell<'_>,
+) -> impl Iterator<Item = (usize, Value<'c>, Value<'c>)> + 'c {
+    let pairs = old.values().zip(file.values()).enumerate();
+    pairs.filter(|(_, (shown, wrote))| shown != wrote).map(|(column, (shown, wrote))| (column, shown, wrote))
+}
+
+/// Why one value differs.
+pub enum Cause {
+    StoredOne,
+    EmptyText,
+    EmptyBlob,
+    Spills,
+}
+
+impl Cause {
+    /// With marks 1 and 2 columns may be shifted, and a value tells nothing by itself.
+    pub fn of(mark: Option<Mark>, wrote: Value<'_>) -> Option<Cause> {
+        match (mark?, wrote) {
+            (Mark::LongVarint | Mark::LongHeaderSize, _) => None,
+            (Mark::TypeNine, Value::Integer(1)) => Some(Cause::StoredOne),
+            (_, Value::Text([])) => Some(Cause::EmptyText),
+            (_, Value::Blob([])) => Some(Cause::EmptyBlob),
+            // In a row that is whole nothing else differs: old looks for this value where the payload goes on elsewhere.
+            _ => Some(Cause::Spills),
+        }
+    }
+
+    fn words(self) -> &'static str {
+        match self {
+            Cause::StoredOne => "type 9",
+            Cause::EmptyText => "an empty text",
+            Cause::EmptyBlob => "an empty blob",
+            Cause::Spills => Mark::Spills.meaning(),
+        }
     }
 }

@@ -1,5 +1,6 @@
-//! The tables of a database by their pages, and the pages that are of none, for `compare` and `sheet`.
+//! The tables of a database by their pages, and the pages that are of none, for `trust`, `compare` and `sheet`.
 
+use crate::failure::Failure;
 use crate::words;
 use shorgavel::{Gauge, Named, Reading, Refusal, Root, Schema, Unread};
 
@@ -25,6 +26,14 @@ pub enum Apart {
     Shared(u32),
     Keyed,
     Virtual,
+}
+
+impl Tree {
+    /// The root page, where its rows are listed.
+    pub fn root(&self) -> Result<u32, &Apart> {
+        self.leaves.as_ref()?;
+        self.named.root.page().ok_or(&Apart::Virtual)
+    }
 }
 
 impl Apart {
@@ -67,6 +76,19 @@ impl Trees {
     pub fn is_partial(&self) -> bool {
         let faulty = |tree: &Tree| tree.leaves.as_ref().is_err_and(Apart::is_fault);
         self.tables.iter().any(faulty) || !(self.unread.is_empty() || self.loose.is_empty())
+    }
+
+    /// Content is who has compared something, and all that there is.
+    pub fn verdict(&self, parted: usize, compared: usize) -> Result<(), Failure> {
+        if parted > 0 {
+            Err(Failure::Parted)
+        } else if self.is_partial() {
+            Err(Failure::Uncompared)
+        } else if compared == 0 {
+            Err(Failure::Nothing)
+        } else {
+            Ok(())
+        }
     }
 }
 

@@ -12,6 +12,24 @@ const ROW: usize = 160;
 pub const KEYED: &str = "it has no row numbers: its rows are in an index, and are not listed";
 pub const VIRTUAL: &str = "it is virtual: it has no pages of its own";
 
+/// With a comma for each thousand.
+pub fn grouped(number: usize) -> String {
+    let digits = number.to_string();
+    let mut words = String::new();
+    for (at, digit) in digits.chars().enumerate() {
+        if at > 0 && (digits.len() - at) % 3 == 0 {
+            words.push(',');
+        }
+        words.push(digit);
+    }
+    words
+}
+
+/// For example `1 row` and `2,000 rows`.
+pub fn counted(number: usize, noun: &str) -> String {
+    format!("{} {noun}{}", grouped(number), if number == 1 { "" } else { "s" })
+}
+
 /// As SQL has it: `null`, `42`, `1.5`, `'text'`, `x'00ff'`.
 pub fn value(words: &mut String, value: Value<'_>, encoding: TextEncoding) {
     match value {
@@ -70,6 +88,15 @@ pub fn unread(row: &Unread) -> String {
     format!("row {} of the schema, page {} cell {}, tells nothing: {why}", place.rowid(), place.page(), place.cell())
 }
 
+/// The first of such rows, and how many more there are.
+pub fn all_unread(rows: &[Unread]) -> Option<String> {
+    match rows {
+        [] => None,
+        [one] => Some(unread(one)),
+        [first, more @ ..] => Some(format!("{} (and {} more rows)", unread(first), more.len())),
+    }
+}
+
 /// Characters that would steer a terminal or turn the direction of a line.
 fn hidden(character: char) -> bool {
     character.is_control()
@@ -119,6 +146,13 @@ pub fn refusal(words: &mut String, refusal: Refusal) {
 #[cfg(test)]
 mod tests {
     use super::*;
+
+    #[test]
+    fn thousands_have_commas() {
+        let words = [0, 999, 1_000, 65_536, 1_073_741_824].map(grouped);
+        assert_eq!(words, ["0", "999", "1,000", "65,536", "1,073,741,824"]);
+        assert_eq!([counted(1, "row"), counted(2_000, "row")], ["1 row", "2,000 rows"]);
+    }
 
     fn said(shown: Value<'_>) -> String {
         let mut words = String::new();

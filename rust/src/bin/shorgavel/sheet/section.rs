@@ -1,10 +1,10 @@
 //! The heading of a table, and that of the pages that are of none.
 
-use super::html::{self, grouped};
+use super::html;
 use crate::leaf::Count;
 use crate::out::Out;
 use crate::trees::{Tree, Trees};
-use crate::words;
+use crate::words::{self, counted, grouped};
 use std::io::{self, Write};
 
 /// Of rows of the schema that tell nothing, so many are told; `tables` lists all.
@@ -65,9 +65,4 @@ fn rows(count: &Count, out: &mut Out) -> io::Result<()> {
         write!(out, ", <span class=\"d\">{} part</span>", grouped(count.parted))?;
     }
     Ok(())
-}
-
-/// For example `1 row` and `2,000 rows`.
-fn counted(number: usize, noun: &str) -> String {
-    format!("{} {noun}{}", grouped(number), if number == 1 { "" } else { "s" })
 }

@@ -1,9 +1,10 @@
 //! The top of the sheet: what the file is, how many rows part, and how to read the tables.
 
-use super::html::{self, grouped};
+use super::html;
 use crate::leaf::Count;
 use crate::out::Out;
 use crate::trees::{Apart, Trees};
+use crate::words::grouped;
 use shorgavel::PageCount;
 use std::io::{self, Write};
 

@@ -4,10 +4,10 @@
 //! each other in one, numbered. End tags that HTML does not ask for are left out: they would be half of a large sheet.
 
 use super::form::Form;
-use super::html::{self, grouped};
+use super::html;
 use crate::leaf::{Leaf, Lent, Trio};
 use crate::out::Out;
-use crate::words;
+use crate::words::{self, grouped};
 use shorgavel::{Cell, Refusal, TextEncoding, Value};
 use std::io;
 

@@ -2,10 +2,10 @@
 use mathlib.Core.Path.{sym, _∙_}
 use denote.Ref.{now}
 use Rattle.cells.specs.Numbered.{numbersIn}
-use Rattle.listing.proofs.Told.{child-none, child-told}
+use Rattle.standing.proofs.Told.{child-none, child-told}
 use borrow.Author.Needs.{needs}
-use Rattle.listing.proofs.child_in.Statement.{statement}
-use Rattle.listing.proofs.child_in.Tie as tie
+use Rattle.standing.proofs.child_in.Statement.{statement}
+use Rattle.standing.proofs.child_in.Tie as tie
 
 numbers-in-requires : tie.Need-numbers-in-requires
 numbers-in-requires c κs = search needs

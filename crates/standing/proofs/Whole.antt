@@ -34,7 +34,7 @@ use Rattle.walk.specs.Tree.{state, visit, leafOf, childrenOf, cellsOf, walkOf, 
 use Rattle.walk.specs.Counted.{more, counted, countBy, countOf}
 use Rattle.walk.proofs.Placed.{placed-read}
 use Rattle.walk.proofs.Steps.{table-flawed, table-shaped}
-use Rattle.listing.specs.Rows.{leafRows, childRows, pageRows, allRows}
+use Rattle.standing.specs.Rows.{leafRows, childRows, pageRows, allRows}
 
 -- a walk that, where it is not refused, has the rows `all`
 data Has : Walk State → List Row → Type 0 where
@@ -100,27 +100,35 @@ grown n = go (ltb n 18446744073709551615) refl
     go true e = (omega arith, λ h. refl)
     go false e = let f = ltb-false n 18446744073709551615 e in (omega arith, λ h. absurd (omega arith))
 
--- what an accepted walk counted
-counts : {w : Walk State} {all : List Row} {s : State} {m : ℕ} (n : ℕ) → Has w all → counted n w ≡ wa.Done s m → m < 18446744073709551615
-    → (rowsOf w ≡ all) × (m ≡ n + length all)
+-- the rows of an accepted walk, and how many it counted
+same-rows : {w : Walk State} {all : List Row} {s : State} {m : ℕ} (n : ℕ) → Has w all → counted n w ≡ wa.Done s m → rowsOf w ≡ all
+same-rows n (none r all) e = never cc
+same-rows n (end t) e = refl
+same-rows n (next r more-rows) e = ap (λ (l : List Row). r ∷ l) (same-rows (more n) more-rows e)
+same-rows n (on k w) e = same-rows n w e
+
+counts : {w : Walk State} {all : List Row} {s : State} {m : ℕ} (n : ℕ) → Has w all → counted n w ≡ wa.Done s m → m < 18446744073709551615 → m ≡ n + length all
 counts n (none r all) e h = never cc
-counts {m = m} n (end t) e h = let k : n ≡ m = cc in (refl, omega arith)
+counts {m = m} n (end t) e h = let k : n ≡ m = cc in omega arith
 counts {m = m} n (next r {w} {all} more-rows) e h =
     let k = counts (more n) more-rows e h in
     let g = grown n in
-    let small : more n < 18446744073709551615 = omega (arith, k .1) in
+    let small : more n < 18446744073709551615 = omega (arith, k) in
     let one = g .1 small in
-    (ap (λ (l : List Row). r ∷ l) (k .0), k .1 ∙ omega arith)
+    k ∙ omega arith
 counts n (on k w) e h = counts n w e h
 
-pub whole : (n : ℕ) (db : List ℕ) {m : ℕ} → countOf n db ≡ co.Shown m → m < 18446744073709551615
-    → (rowsOf (tableOf n db) ≡ allRows 20 db n) × (m ≡ length (allRows 20 db n))
-unfolding countOf
-whole n db {m} e h = go (counted 0 (tableOf n db)) refl e
-  where
-    go : (x : Walked) → counted 0 (tableOf n db) ≡ x → countBy x ≡ co.Shown m → (rowsOf (tableOf n db) ≡ allRows 20 db n) × (m ≡ length (allRows 20 db n))
-    go (wa.Refused r) q d = never cc
-    go (wa.Done s c) q d =
-        let i : c ≡ m = cc in
-        let k = counts 0 (table-has n db) (rw i at q) h in
-        (k .0, k .1 ∙ omega arith)
+module _ (n : ℕ) (db : List ℕ) {m : ℕ} where
+  accepted : countOf n db ≡ co.Shown m → (s : State) × (counted 0 (tableOf n db) ≡ wa.Done s m)
+  unfolding countOf
+  accepted e = go (counted 0 (tableOf n db)) refl e
+    where
+      go : (x : Walked) → counted 0 (tableOf n db) ≡ x → countBy x ≡ co.Shown m → (s : State) × (counted 0 (tableOf n db) ≡ wa.Done s m)
+      go (wa.Refused r) q d = never cc
+      go (wa.Done s c) q d = let i : c ≡ m = cc in (s, q ∙ ap (wa.Done s) i)
+
+  pub whole : countOf n db ≡ co.Shown m → rowsOf (tableOf n db) ≡ allRows 20 db n
+  whole e = same-rows 0 (table-has n db) (accepted e .1)
+
+  pub whole-counted : countOf n db ≡ co.Shown m → m < 18446744073709551615 → m ≡ length (allRows 20 db n)
+  whole-counted e h = counts 0 (table-has n db) (accepted e .1) h ∙ omega arith

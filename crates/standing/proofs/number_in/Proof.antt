@@ -4,10 +4,10 @@ use denote.Ref.{now}
 use mir.Syntax.{w64}
 use mir.Facts.{toZ-ofZ}
 use Rattle.keys.specs.Key.{keyIn}
-use Rattle.listing.proofs.Told.{number-none, number-told}
+use Rattle.standing.proofs.Told.{number-none, number-told}
 use borrow.Author.Needs.{needs}
-use Rattle.listing.proofs.number_in.Statement.{statement}
-use Rattle.listing.proofs.number_in.Tie as tie
+use Rattle.standing.proofs.number_in.Statement.{statement}
+use Rattle.standing.proofs.number_in.Tie as tie
 
 key-in-requires : tie.Need-key-in-requires
 key-in-requires c κs = search needs

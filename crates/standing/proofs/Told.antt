@@ -9,7 +9,7 @@ use Rattle.cells.specs.declared.NumberedAnswer.the-variants as na
 use Rattle.cells.specs.Numbered.{numberedAnswer}
 use Rattle.keys.specs.declared.KeyAnswer.the-variants as ka
 use Rattle.keys.specs.Key.{keyAnswer}
-use Rattle.listing.specs.Rows.{numberBy, childBy}
+use Rattle.standing.specs.Rows.{numberBy, childBy}
 
 pub number-none : (x : Answer Refusal ℤ) {r : Refusal} → keyAnswer x ≡ ka.Refused r → numberBy x ≡ pos 0
 number-none (refused r) e = cc
