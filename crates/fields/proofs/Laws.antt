@@ -58,6 +58,18 @@ module _ (s : List ℕ) (h : 6 ≤ length s) where
   pub in-two : unsigned 6 s ≡ unsigned 2 s * 4294967296 + unsigned 4 (drop 2 s)
   in-two = sym (spells-zero (take 6 s)) ∙ behind
 
+-- a field as the sum of its bytes times powers of 256
+pub sum-of-three : (s : List ℕ) → 3 ≤ length s → unsigned 3 s ≡ getD s 0 0 * 65536 + getD s 1 0 * 256 + getD s 2 0
+sum-of-three s h =
+    let e = sym (spells-zero (take 3 s)) ∙ next s 3 0 0 (omega arith) (omega arith) ∙ next s 3 1 _ (omega arith) (omega arith) ∙ next s 3 2 _ (omega arith) (omega arith) ∙ whole s 3 3 _ (omega arith) in
+    e ∙ omega arith
+
+pub sum-of-six : (s : List ℕ) → 6 ≤ length s
+    → unsigned 6 s ≡ getD s 0 0 * 1099511627776 + getD s 1 0 * 4294967296 + getD s 2 0 * 16777216 + getD s 3 0 * 65536 + getD s 4 0 * 256 + getD s 5 0
+sum-of-six s h =
+    let e = sym (spells-zero (take 6 s)) ∙ next s 6 0 0 (omega arith) (omega arith) ∙ next s 6 1 _ (omega arith) (omega arith) ∙ next s 6 2 _ (omega arith) (omega arith) ∙ next s 6 3 _ (omega arith) (omega arith) ∙ next s 6 4 _ (omega arith) (omega arith) ∙ next s 6 5 _ (omega arith) (omega arith) ∙ whole s 6 6 _ (omega arith) in
+    e ∙ omega arith
+
 -- THE BOUND: bytes are below 256, so w of them spell a number below 256 to the w
 
 abbrev pub Bytes : List ℕ → Type 0

@@ -13,6 +13,10 @@ use mir.Val.{toZ}
 use mir.Facts.{toZ-pos}
 use Rattle.fields.specs.Fields.{twos}
 
+negative : (n : ℕ) → 0 < n → negℤ (pos n) ≡ negsuc (n - 1)
+negative zero h = absurd (omega arith)
+negative (suc n) h = let e : suc n - 1 ≡ n = omega arith in rw e
+
 module _ (top v : ℕ) where
   pub lower : v < top → twos (2 * top) v ≡ pos v
   unfolding twos
@@ -24,6 +28,13 @@ module _ (top v : ℕ) where
       let e : 2 * top - suc v ≡ top - 1 - (v - top) = omega arith in
       rw (le-ltb (2 * v) (2 * top) (omega arith), lt-ltb v (2 * top) k, e)
 
+  -- v less all patterns, where its top bit is set
+  pub less-all : top ≤ v → v < 2 * top → pos v -ℤ pos (2 * top) ≡ negsuc (top - 1 - (v - top))
+  less-all h k =
+      let f : suc (2 * top - 1) ≡ 2 * top = omega arith in
+      let e : 2 * top - suc v ≡ top - 1 - (v - top) = omega arith in
+      rw (negative (2 * top) (omega arith), f, lt-ltb v (2 * top) k, e)
+
 minus-one : (n : ℕ) → negsuc 0 -ℤ pos n ≡ negsuc n
 minus-one zero = refl
 minus-one (suc n) = ap negsuc (ap suc (zero-add n))
@@ -33,10 +44,6 @@ pub minus : (n : ℕ) → n < 2 ^ 63 → negsuc 0 -ℤ toZ w64 n ≡ negsuc n
 minus n h = rw (toZ-pos w64 h) (minus-one n)
 
 -- TWO FIELDS AS ONE: the upper in two's complement, the lower behind it
-
-negative : (n : ℕ) → 0 < n → negℤ (pos n) ≡ negsuc (n - 1)
-negative zero h = absurd (omega arith)
-negative (suc n) h = let e : suc n - 1 ≡ n = omega arith in rw e
 
 -- a field of two bytes, moved up by four
 pub moved : (z : ℤ) → 2 * mag z < 256 ^ 2 → mag (z *ℤ pos 4294967296) < 2 ^ 63

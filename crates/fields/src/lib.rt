@@ -6,7 +6,7 @@
 // from nom, under nom's names.
 ghost use mathlib.Core.Path.{_≡_};
 ghost use Prim.Native.Nat.{_*_, _^_, _≤_, _<_};
-ghost use lib.ListN.{length};
+ghost use lib.ListN.{length, getD};
 ghost use lib.Signed.{mag};
 ghost use Rattle.fields.specs.Fields.{twos, unsigned, signed};
 
@@ -98,10 +98,26 @@ pub fn be_i16(part: &[u8]) -> i16
     signed_spelt(part, 2) as i16
 }
 
+// A byte, for a sum.
+fn byte(part: &[u8], i: usize) -> u64
+    requires { ⌜ i < length (now part) ⌝ }
+    ensures { λ r. ⌜ (r ≡ getD (now (part .entry)) i 0) × (r < 256) ⌝ }
+{
+    part[i] as u64
+}
+
+// The sum of the bytes times powers of 256, less 2 to the 24 where the top bit is set.
 pub fn be_i24(part: &[u8]) -> i32
     ensures { λ r. ⌜ r ≡ signed 3 (now (part .entry)) ⌝ }
 {
-    signed_spelt(part, 3) as i32
+    if part.len() < 3 {
+        return signed_spelt(part, 3) as i32;
+    }
+    let sum = byte(part, 0) * 0x1_0000 + byte(part, 1) * 0x100 + byte(part, 2);
+    if sum < 0x80_0000 {
+        return sum as i32;
+    }
+    (sum as i64 - 0x100_0000) as i32
 }
 
 pub fn be_i32(part: &[u8]) -> i32
@@ -110,8 +126,28 @@ pub fn be_i32(part: &[u8]) -> i32
     signed_spelt(part, 4) as i32
 }
 
-// As two fields, each one load: six bytes are none.
+// The sum of the bytes times powers of 256, less 2 to the 48 where the top bit is set.
 pub fn be_i48(part: &[u8]) -> i64
+    ensures { λ r. ⌜ r ≡ signed 6 (now (part .entry)) ⌝ }
+{
+    if part.len() < 6 {
+        return signed_spelt(part, 6);
+    }
+    let sum = byte(part, 0) * 0x100_0000_0000
+        + byte(part, 1) * 0x1_0000_0000
+        + byte(part, 2) * 0x100_0000
+        + byte(part, 3) * 0x1_0000
+        + byte(part, 4) * 0x100
+        + byte(part, 5);
+    if sum < 0x8000_0000_0000 {
+        return sum as i64;
+    }
+    sum as i64 - 0x1_0000_0000_0000
+}
+
+// The same as two fields, each one load: six bytes are none. For the values of a row at once, where the sum would cost more than one
+// instruction in a hundred.
+pub fn load_i48(part: &[u8]) -> i64
     ensures { λ r. ⌜ r ≡ signed 6 (now (part .entry)) ⌝ }
 {
     if part.len() < 6 {

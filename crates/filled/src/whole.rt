@@ -15,9 +15,9 @@ use fields::be_i8;
 use fields::be_i16;
 use fields::be_i24;
 use fields::be_i32;
-use fields::be_i48;
 use fields::be_i64;
 use fields::be_u64;
+use fields::load_i48;
 use reading::Reading;
 use serial::Width;
 use turns::rows::filled_of;
@@ -115,7 +115,7 @@ fn put_value(
         2 => put_integer(table, place, manner.i16, be_i16(part) as i64, at + 2),
         3 => put_integer(table, place, manner.i32, be_i24(part) as i64, at + 3),
         4 => put_integer(table, place, manner.i32, be_i32(part) as i64, at + 4),
-        5 => put_integer(table, place, manner.i64, be_i48(part), at + 6),
+        5 => put_integer(table, place, manner.i64, load_i48(part), at + 6),
         6 => put_integer(table, place, manner.i64, be_i64(part), at + 8),
         7 => put_at(table, place, real_of(be_u64(part)), at + 8),
         8 => put_integer(table, place, manner.i8, 0, at),

@@ -1,20 +1,42 @@
--- The upper field in two's complement and the lower behind it are the number of six bytes.
-use Prim.Native.Nat.{_*_, _^_, _≤_, _<_}
+-- The sum is the number that the bytes spell; in the upper half of the patterns it is taken less all of them.
+use Prim.Native.Nat.{ℕ, _+_, _-_, _*_, _≤_, _<_}
+use mathlib.Core.Path.{_≡_, sym, ap, _∙_}
 use native.Mathlib.Omega.{arith}
-use lib.ListN.{length, drop}
-use lib.IntN.{ℤ, pos, _+ℤ_, _*ℤ_}
-use lib.Signed.{mag}
-use mir.Syntax.{w16, w64}
-use mir.Facts.{toZ-ofZ, toZ-pos}
+use lib.IntN.{ℤ, pos, negsuc, _-ℤ_}
 use denote.Ref.{now}
-use Rattle.laws.proofs.Casts.{widen-fits, widen-same}
-use Rattle.laws.proofs.Parts.{tail}
-use Rattle.fields.specs.Fields.{unsigned}
-use Rattle.fields.proofs.Laws.{Bytes, in-two, unsigned-below, bytes-drop}
-use Rattle.fields.proofs.Twos.{moved, held, joined}
+use mir.Syntax.{w64}
+use mir.Val.{toZ}
+use mir.Facts.{toZ-pos, toZ-ofZ}
+use Rattle.fields.specs.Fields.{unsigned, twos}
+use Rattle.fields.proofs.Laws.{sum-of-six}
+use Rattle.fields.proofs.Twos.{lower, upper, less-all}
 use borrow.Author.Needs.{needs}
 use Rattle.fields.proofs.be_i48.Statement.{statement}
 use Rattle.fields.proofs.be_i48.Tie as tie
+
+-- the sum, behind the last byte: what the bytes spell, and below 2 to the 48
+abbrev sum : tie.After-byte6 → ℕ
+sum c =
+    c .before .before .before .before .before .byte .result * 1099511627776 + c .before .before .before .before .byte2 .result * 4294967296
+    + c .before .before .before .byte3 .result * 16777216
+    + c .before .before .byte4 .result * 65536
+    + c .before .byte5 .result * 256
+    + c .byte6 .result
+
+spelt : (c : tie.After-byte6) → sum c ≡ unsigned 6 (now (c .before .before .before .before .before .before .before .before .args .part))
+spelt c =
+    let s = now (c .before .before .before .before .before .before .before .before .args .part) in
+    rw (c .before .before .before .before .before .byte .ensures .0, c .before .before .before .before .byte2 .ensures .0, c .before .before .before .byte3 .ensures .0, c .before .before .byte4 .ensures .0, c .before .byte5 .ensures .0, c .byte6 .ensures .0)
+    (sym (sum-of-six s (c .before .before .before .before .before .before .if1 .left)))
+
+below : (c : tie.After-byte6) → sum c < 281474976710656
+below c =
+    omega (arith, c .before .before .before .before .before .byte .ensures .1, c .before .before .before .before .byte2 .ensures .1, c .before .before .before .byte3 .ensures .1, c .before .before .byte4 .ensures .1, c .before .byte5 .ensures .1, c .byte6 .ensures .1)
+
+less : (c : tie.Else2) → toZ w64 (sum (c .before)) -ℤ pos 281474976710656 ≡ negsuc (140737488355328 - 1 - (sum (c .before) - 140737488355328))
+less c =
+    ap (λ (z : ℤ). z -ℤ pos 281474976710656) (toZ-pos w64 {n = sum (c .before)} (omega (arith, below (c .before))))
+    ∙ less-all 140737488355328 (sum (c .before)) (c .if2 .left) (below (c .before))
 
 signed-spelt-requires : tie.Need-signed-spelt-requires
 signed-spelt-requires c κs = search needs
@@ -22,55 +44,72 @@ signed-spelt-requires c κs = search needs
 returns : tie.Need-returns
 returns c = search needs
 
-be-i16-requires : tie.Need-be-i16-requires
-be-i16-requires c κs = search needs
+byte-requires : tie.Need-byte-requires
+byte-requires c κs = search needs
+
+mul-sum : tie.Need-mul-sum
+mul-sum c = search needs
+
+byte-requires-2 : tie.Need-byte-requires-2
+byte-requires-2 c κs = search needs
+
+mul-sum-2 : tie.Need-mul-sum-2
+mul-sum-2 c = search needs
+
+add-sum : tie.Need-add-sum
+add-sum c = search needs
+
+byte-requires-3 : tie.Need-byte-requires-3
+byte-requires-3 c κs = search needs
+
+mul-sum-3 : tie.Need-mul-sum-3
+mul-sum-3 c = search needs
+
+add-sum-2 : tie.Need-add-sum-2
+add-sum-2 c = search needs
+
+byte-requires-4 : tie.Need-byte-requires-4
+byte-requires-4 c κs = search needs
+
+mul-sum-4 : tie.Need-mul-sum-4
+mul-sum-4 c = search needs
+
+add-sum-3 : tie.Need-add-sum-3
+add-sum-3 c = search needs
+
+byte-requires-5 : tie.Need-byte-requires-5
+byte-requires-5 c κs = search needs
+
+mul-sum-5 : tie.Need-mul-sum-5
+mul-sum-5 c = search needs
+
+add-sum-4 : tie.Need-add-sum-4
+add-sum-4 c = search needs
+
+byte-requires-6 : tie.Need-byte-requires-6
+byte-requires-6 c κs = search needs
+
+add-sum-5 : tie.Need-add-sum-5
+add-sum-5 c = search needs
 
 cast-result : tie.Need-cast-result
-cast-result c = widen-fits w16 (c .be-i16 .result) (c .be-i16 .ok) tt
+cast-result c = search needs
 
-mul-result : tie.Need-mul-result
-mul-result c =
-    let r = c .be-i16 in
-    record { sfits = rw (widen-same w16 (r .result) (r .ok) tt) (moved (r .result) (omega (arith, r .ok))) }
-
-sub-spelt : tie.Need-sub-spelt
-sub-spelt c = search needs
-
-part-spelt-start : tie.Need-part-spelt-start
-part-spelt-start c = search needs
-
-part-spelt-end : tie.Need-part-spelt-end
-part-spelt-end c = search needs
-
-spelt-requires : tie.Need-spelt-requires
-spelt-requires c κs = search needs
+returns-2 : tie.Need-returns-2
+returns-2 c =
+    toZ-pos w64 {n = sum (c .before)} (omega (arith, below (c .before))) ∙ sym (lower 140737488355328 (sum (c .before)) (c .if2 .taken))
+    ∙ ap (twos 281474976710656) (spelt (c .before))
 
 cast-result-2 : tie.Need-cast-result-2
 cast-result-2 c = search needs
 
-add-result : tie.Need-add-result
-add-result c =
-    let r = c .before .before .be-i16 in
-    let b = c .spelt in
-    let low : b .result < 2 ^ 63 = omega (arith, b .ensures .1) in
-    let small : 2 * mag (r .result) < 256 ^ 2 = omega (arith, r .ok) in
-    record {
-      sfits = rw (widen-same w16 (r .result) (r .ok) tt, toZ-ofZ {w = w64} {z = r .result *ℤ pos 4294967296} (record { sfits = moved (r .result) small }), toZ-pos w64 low)
-          (held (r .result) (b .result) small (b .ensures .1));
-    }
+sub-result : tie.Need-sub-result
+sub-result c = record { sfits = rw (less c) (omega (arith, below (c .before))) }
 
-returns-2 : tie.Need-returns-2
-returns-2 c =
-    let s = now (c .before .before .before .before .before .args .part) in
-    let r = c .before .before .be-i16 in
-    let b = c .spelt in
-    let low : b .result < 2 ^ 63 = omega (arith, b .ensures .1) in
-    let small : 2 * mag (r .result) < 256 ^ 2 = omega (arith, r .ok) in
-    let whole : 6 ≤ length s = c .before .before .before .if1 .left in
-    let bytes : Bytes s = λ i. c .before .before .before .before .shared-slice-known .given i .fits in
-    let z : ℤ = r .result *ℤ pos 4294967296 in
-    rw (widen-same w16 (r .result) (r .ok) tt, toZ-ofZ {w = w64} {z = z} (record { sfits = moved (r .result) small }), toZ-pos w64 low, toZ-ofZ {w = w64} {z = z +ℤ pos (b .result)} (record { sfits = held (r .result) (b .result) small (b .ensures .1) }), r .ensures, in-two s whole, b .ensures .0, tail s 2)
-    (joined (unsigned 2 s) (unsigned 4 (drop 2 s)) (unsigned-below 2 s bytes) (unsigned-below 4 (drop 2 s) (bytes-drop 2 s bytes)))
+returns-3 : tie.Need-returns-3
+returns-3 c =
+    toZ-ofZ {w = w64} {z = toZ w64 (sum (c .before)) -ℤ pos 281474976710656} (record { sfits = rw (less c) (omega (arith, below (c .before))) })
+    ∙ less c ∙ sym (upper 140737488355328 (sum (c .before)) (c .if2 .left) (below (c .before))) ∙ ap (twos 281474976710656) (spelt (c .before))
 
 pub be-i48-spec : {M : Type 1} → statement M
 be-i48-spec =
@@ -78,13 +117,24 @@ be-i48-spec =
     (tie.spec
     signed-spelt-requires
     returns
-    be-i16-requires
+    byte-requires
+    mul-sum
+    byte-requires-2
+    mul-sum-2
+    add-sum
+    byte-requires-3
+    mul-sum-3
+    add-sum-2
+    byte-requires-4
+    mul-sum-4
+    add-sum-3
+    byte-requires-5
+    mul-sum-5
+    add-sum-4
+    byte-requires-6
+    add-sum-5
     cast-result
-    mul-result
-    sub-spelt
-    part-spelt-start
-    part-spelt-end
-    spelt-requires
+    returns-2
     cast-result-2
-    add-result
-    returns-2)
+    sub-result
+    returns-3)

@@ -71,8 +71,8 @@ add-put-integer-4 c = omega (arith, bytes-as (c .before .before .before .before 
 put-integer-requires-4 : tie.Need-put-integer-requires-4
 put-integer-requires-4 c κs = search needs
 
-be-i48-requires : tie.Need-be-i48-requires
-be-i48-requires c κs = search needs
+load-i48-requires : tie.Need-load-i48-requires
+load-i48-requires c κs = search needs
 
 add-put-integer-5 : tie.Need-add-put-integer-5
 add-put-integer-5 c = omega (arith, bytes-as (c .before .before .before .before .args .serial) (c .before .before .match .keys6) (omega arith), c .before .before .before .before .pre .2)
@@ -173,7 +173,7 @@ same-length-6 c = search needs
 returns-6 : tie.Need-returns-6
 unfolding valueBy
 returns-6 c = let a = c .before .before .before .before .before .before .args in
-    let b = c .before .before .be-i48 in
+    let b = c .before .before .load-i48 in
     stored-as (a .manner) (a .serial) (a .at) (now (a .part)) (now (a .table)) (a .place) (c .before .before .before .before .match .keys6) (omega arith) (c .before .put-integer5 .ensures .0)
     (ap (integerOf (a .manner .i64)) (toZ-ofZ {w = w64} (record { sfits = b .ok }) ∙ b .ensures))
     (c .before .put-integer5 .ensures .1)
@@ -252,7 +252,7 @@ put-value-spec =
     cast-put-integer-4
     add-put-integer-4
     put-integer-requires-4
-    be-i48-requires
+    load-i48-requires
     add-put-integer-5
     put-integer-requires-5
     be-i64-requires
