@@ -2,6 +2,8 @@
 // place of it is shown.
 ghost use mathlib.Core.Path.{_≡_};
 ghost use Rattle.probe.specs.Probe.{returnedOf, probeOf};
+// A page's answer may hold a refusal: the prover names each type that a value holds, and finds it by the crates that are named.
+use answers::Refusal;
 use place::Page;
 use table::Entry;
 use table::PageAnswer;

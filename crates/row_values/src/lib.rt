@@ -4,3 +4,6 @@
 // no check made twice; each of its answers is that of `old::value` or `file::value` for the column: a theorem of `extents`.
 pub mod file;
 pub mod old;
+
+// A cursor has a reading: the prover names each type that a value holds, and finds it by the crates that are named.
+use reading::Reading;
