@@ -192,12 +192,19 @@ typedef struct {
     size_t end;
 } shorgavel_along;
 
-/* A cell: its row number or key, its column count and the cursor before its first column. */
+/* A cell: its row number or key, its column count, the cursor before its first column, and whether its varints are such as SQLite
+ * writes, which never takes a byte more than it needs.
+ *
+ * A varint is in its shortest form if no shorter one has its value: one byte below 128, and so on, nine from 2^56 on. The reading
+ * took the payload size, the row number or key, the header size and the types, and of an index cell in the old reading the closing
+ * varint behind the values. It did not take what it skips: a type that has no end, in the old reading, and bytes behind the values. */
 typedef struct {
     shorgavel_refused refused;
     int64_t row;
     size_t columns;
     shorgavel_along along;
+    uint8_t shortest; /* 1: every varint that the reading took from the cell is in its shortest form; 0: some is not, or the cell
+                         is refused */
 } shorgavel_cell;
 
 /* The cell as the old reading has it. */

@@ -124,6 +124,16 @@ pub struct Along {
     pub end: usize,
 }
 
+/// A cell; `shortest` is 1 where every varint that the reading took from it is in its shortest form.
+#[repr(C)]
+pub struct Cell {
+    pub refused: Refused,
+    pub row: i64,
+    pub columns: usize,
+    pub along: Along,
+    pub shortest: u8,
+}
+
 /// The kinds of values; any other number is null.
 pub const INTEGER: u8 = 1;
 pub const REAL: u8 = 2;
@@ -201,6 +211,9 @@ extern "C" {
         places: usize,
     ) -> PageAnswer;
     fn shorgavel_open(db: *const u8, length: usize, reading: u8, page: u32) -> Opening;
+    fn shorgavel_old_cell(db: *const u8, length: usize, page: u32, cell: usize) -> Cell;
+    fn shorgavel_file_cell(db: *const u8, length: usize, page: u32, cell: usize) -> Cell;
+    fn shorgavel_guarded_cell(db: *const u8, length: usize, page: u32, cell: usize) -> Cell;
     fn shorgavel_row_in(
         db: *const u8,
         length: usize,
@@ -277,6 +290,17 @@ pub fn entries(db: &[u8], reading: u8, page: u32, table: &mut [CellEntry]) -> Pa
 pub fn open(db: &[u8], reading: u8, page: u32) -> Opening {
     // SAFETY: pointer and length are of one slice; any number names a page or is refused.
     unsafe { shorgavel_open(db.as_ptr(), db.len(), reading, page) }
+}
+
+/// One cell in a reading; a number that is not old's or guarded's is taken for the file reading, as everywhere.
+pub fn cell(db: &[u8], reading: u8, page: u32, cell: usize) -> Cell {
+    let call = match reading {
+        0 => shorgavel_old_cell,
+        2 => shorgavel_guarded_cell,
+        _ => shorgavel_file_cell,
+    };
+    // SAFETY: pointer and length are of one slice; a page or cell that is not there is refused.
+    unsafe { call(db.as_ptr(), db.len(), page, cell) }
 }
 
 /// A cell of a page that `open` opened, in the page's reading, and in the table its values, in place of those that were
@@ -410,6 +434,7 @@ mod tests {
         assert_eq!(size_of::<Opened>(), 48);
         assert_eq!(size_of::<Opening>(), 72);
         assert_eq!(size_of::<Along>(), 32);
+        assert_eq!(size_of::<Cell>(), 80);
         assert_eq!(size_of::<Row>(), 80);
         assert_eq!(size_of::<Value>(), 40);
         assert_eq!(size_of::<Shown>(), 64);
@@ -439,6 +464,7 @@ mod tests {
         assert_eq!(header(&[], 1).refused.number, 1);
         assert_eq!(pages(&[], 0).refused.number, 1);
         assert_eq!(open(&[], 0, 0).refused.number, 1);
+        assert_eq!([0, 1, 2].map(|reading| cell(&[], reading, 1, 0).refused.number), [1, 1, 1]);
         assert_eq!(entries(&[], 1, 1, &mut []).refused.number, 1);
         assert_eq!(table_count(&[], 1).refused.number, 1);
         assert_eq!(table_rows(&[], 1, &mut Vec::new()).refused.number, 1);
@@ -485,6 +511,34 @@ mod tests {
                 assert_eq!(format!("{other:?}"), format!("{table:?}"));
             }
         }
+    }
+
+    /// Row, columns, cursor and flag stand where the call has them, in each reading.
+    #[test]
+    fn a_cell_has_every_field_in_its_place() {
+        let mut bytes = one_row();
+        for reading in [0, 1, 2, 255] {
+            let page = u32::from(reading > 0);
+            let shown = cell(&bytes, reading, page, 0);
+            assert_eq!((shown.refused.number, shown.row, shown.columns, shown.shortest), (0, 3, 2, 1));
+            let along = shown.along;
+            assert_eq!((along.at, along.stop, along.value, along.end), (507, 509, 509, 512));
+            let none = cell(&bytes, reading, page, 1);
+            assert_eq!((none.refused.number, none.row, none.columns, none.shortest), (20, 0, 0, 0));
+        }
+        // The row number 3 in two bytes.
+        bytes[108..110].copy_from_slice(&[1, 247]);
+        bytes[503..506].copy_from_slice(&[6, 0x80, 3]);
+        for reading in [0, 1, 2] {
+            let shown = cell(&bytes, reading, u32::from(reading > 0), 0);
+            assert_eq!((shown.refused.number, shown.row, shown.columns, shown.shortest), (0, 3, 2, 0));
+        }
+        // A type 9: guarded alone refuses it.
+        bytes[503..].copy_from_slice(&[5, 0x80, 3, 3, 9, 2, 0, 7, 0]);
+        assert_eq!(
+            [0, 1, 2].map(|reading| cell(&bytes, reading, u32::from(reading > 0), 0).refused.number),
+            [0, 0, 21]
+        );
     }
 
     /// Where a row is refused, the table has no value.

@@ -18,13 +18,25 @@ pub struct Cell<'a> {
     bytes: Bytes<'a>,
     rowid: i64,
     table: Table,
+    site: Site,
+}
+
+/// Where a cell stands, as the calls on one cell are told it.
+#[derive(Clone, Copy, Debug)]
+struct Site {
+    reading: u8,
+    /// Whether the cell's bytes are those of notes: then its payload spills, and the calls on one cell refuse it.
+    gathered: bool,
+    page: u32,
+    cell: usize,
 }
 
 impl<'a> Cell<'a> {
     #[inline]
     pub(crate) fn of(bytes: Bytes<'a>, page: &calls::Opened, cell: usize) -> Result<Cell<'a>, Refusal> {
         let (rowid, table) = Table::fetch(bytes, page, cell)?;
-        Ok(Cell { bytes, rowid, table })
+        let site = Site { reading: page.reading, gathered: false, page: page.number, cell };
+        Ok(Cell { bytes, rowid, table, site })
     }
 
     /// The same, and where the payload spills, it is put together in the notes. Behind a row that spilled they are lent at
@@ -43,7 +55,9 @@ impl<'a> Cell<'a> {
             }
         }
         let (rowid, table, source) = Table::fetch_with(bytes, page, cell, notes)?;
-        Ok(Cell { bytes: notes.source(source, bytes), rowid, table })
+        let gathered = source == calls::BUFFER;
+        let site = Site { reading: page.reading, gathered, page: page.number, cell };
+        Ok(Cell { bytes: notes.source(source, bytes), rowid, table, site })
     }
 
     /// The row number of a table leaf's cell, the key of an interior table's.
@@ -70,6 +84,44 @@ impl<'a> Cell<'a> {
     #[inline]
     pub fn value(&self, column: usize) -> Option<Value<'a>> {
         self.values().nth(column)
+    }
+
+    /// Whether all varints that the reading took from the cell are in their shortest form: no byte could have been saved.
+    ///
+    /// SQLite writes no others, and neither does the gauge; so where one is not, something else wrote the cell. Taken are the
+    /// payload size, the row number or key, the header size and the types, and of an index cell in the old reading the
+    /// varint behind the values, which it shows as the row number. The reader is asked anew for it, once for each call.
+    ///
+    /// None where the payload spills, so that the cell was put together in [`Notes`]: of such a cell the reader does not
+    /// tell it.
+    ///
+    /// ```
+    /// # // A page of two rows, each a 7: row 1, and row 2, whose number takes two bytes.
+    /// # let mut bytes = vec![0; 512];
+    /// # bytes[..16].copy_from_slice(b"SQLite format 3\0");
+    /// # bytes[16..24].copy_from_slice(&[2, 0, 1, 1, 0, 64, 32, 32]);
+    /// # bytes[59] = 1;
+    /// # bytes[100..112].copy_from_slice(&[13, 0, 0, 0, 2, 1, 245, 0, 1, 251, 1, 245]);
+    /// # bytes[501..].copy_from_slice(&[3, 0x80, 2, 2, 1, 7, 3, 1, 2, 1, 7]);
+    /// use shorgavel::{Gauge, Reading};
+    ///
+    /// for row in Gauge::new(&bytes).rows(Reading::File)? {
+    ///     let cell = row.shown?;
+    ///     if cell.shortest() == Some(false) {
+    ///         println!("row {} was written by something else than SQLite", cell.rowid());
+    ///     }
+    /// #   assert_eq!(cell.shortest(), Some(cell.rowid() == 1));
+    /// }
+    /// # Ok::<(), shorgavel::Refusal>(())
+    /// ```
+    pub fn shortest(&self) -> Option<bool> {
+        let Site { reading, gathered, page, cell } = self.site;
+        if gathered {
+            return None;
+        }
+        let answer = calls::cell(self.bytes.0, reading, page, cell);
+        debug_assert_eq!(answer.refused.number, 0);
+        Some(answer.shortest == 1)
     }
 
     /// What the original calls the integers' types, column by column: none where a value is not an integer, and none in

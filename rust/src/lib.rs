@@ -32,8 +32,9 @@
 //!
 //! Pages count from 0 in the old reading, as in the original's `get_page`, and from 1 in the other two; cells and columns
 //! count from 0. [`Gauge::schema`] names the tables, [`Gauge::table`] lists the rows of one in the order of their numbers, and
-//! [`Gauge::trusted`] lists them if old and file show every one of them alike. Long notes, which spill to overflow pages, are shown where [`Notes`] are lent. [`moving`] shows how to come over from
-//! sqlite-parser-nom.
+//! [`Gauge::trusted`] lists them if old and file show every one of them alike. Long notes, which spill to overflow pages, are
+//! shown where [`Notes`] are lent. [`Cell::shortest`] tells whether a cell could have come from SQLite, by how its numbers are
+//! written. [`moving`] shows how to come over from sqlite-parser-nom.
 
 #![deny(unsafe_code)]
 #![warn(missing_docs)]

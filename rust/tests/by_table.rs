@@ -221,6 +221,7 @@ fn half_a_file_is_told() {
     let said = "shorgavel: the file is cut: 8 of its 9 pages are there\n";
     for words in [
         &["trust", "-"][..],
+        &["writer", "-"][..],
         &["tables", "-"],
         &["rows", "-"],
         &["rows", "-", "--table", "2"],
@@ -261,7 +262,9 @@ fn a_log_beside_the_file_is_told() {
     assert_eq!(file.show(&["rows"]).stderr, plain.stderr);
     fs::write(&log, b"x").unwrap();
     let said = "shorgavel: the last writes are in logged.db-wal, beside the file: they are not read\n";
-    for words in [&["trust"][..], &["header"], &["page", "1"], &["tables"], &["rows"], &["compare"], &["sheet"]] {
+    for words in
+        [&["trust"][..], &["writer"], &["header"], &["page", "1"], &["tables"], &["rows"], &["compare"], &["sheet"]]
+    {
         let output = file.show(words);
         assert!(err(&output).starts_with(said), "{words:?}");
     }

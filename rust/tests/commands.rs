@@ -40,7 +40,7 @@ fn over_the_limit_is_refused_unread() {
     File::options().write(true).open(&file.0).unwrap().set_len(1_073_741_825).unwrap();
     let output = file.show(&["rows"]);
     assert_eq!((out(&output), status(&output)), ("page cell reading rowid values\nrefused 22\n", 1));
-    for words in [&["trust"][..], &["header"], &["page", "1"], &["tables"], &["compare"], &["sheet"]] {
+    for words in [&["trust"][..], &["writer"], &["header"], &["page", "1"], &["tables"], &["compare"], &["sheet"]] {
         let output = file.show(words);
         assert_eq!((out(&output), status(&output)), ("", 1));
         assert_eq!(err(&output), "shorgavel: refused 22 (OverLimit): there are over 1,073,741,824 bytes\n");
@@ -300,6 +300,7 @@ fn help_and_version_are_told() {
         assert_eq!((err(&output), status(&output)), ("", 0));
         for command in [
             "trust",
+            "writer",
             "header",
             "page",
             "tables",
@@ -321,7 +322,7 @@ fn help_and_version_are_told() {
 #[test]
 fn wrong_words_end_with_2() {
     let root = "--table takes the number of a root page, as `shorgavel tables` lists it";
-    let wrong: [(&[&str], &str); 19] = [
+    let wrong: [(&[&str], &str); 21] = [
         (&[], "a command is missing"),
         (&["row"], "there is no command row"),
         (&["rows"], "rows: FILE is missing"),
@@ -335,6 +336,8 @@ fn wrong_words_end_with_2() {
         (&["trust"], "trust: FILE is missing"),
         (&["trust", "-", "-"], "trust: - is one word too many"),
         (&["trust", "-", "--notes"], "trust takes no --notes"),
+        (&["writer"], "writer: FILE is missing"),
+        (&["writer", "-", "--parting"], "writer takes no --parting"),
         (&["rows", "-", "--table"], root),
         (&["rows", "-", "--table", "load"], root),
         (&["compare", "-", "--table", "2"], "compare takes no --table"),

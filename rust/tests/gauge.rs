@@ -4,7 +4,9 @@ mod common;
 
 use common::{every_kind, long_notes, note, pages, put, spill, two_rows};
 use shorgavel::Reading::{File, Guarded, Old};
-use shorgavel::{Cell, Entry, Gauge, Head, Kind, Mark, Notes, PageCount, Reading, Refusal, Row, TextEncoding, Value, Width};
+use shorgavel::{
+    Cell, Entry, Gauge, Head, Kind, Mark, Notes, PageCount, Reading, Refusal, Row, TextEncoding, Value, Width,
+};
 use std::cell::RefCell;
 
 fn cell(bytes: &[u8], reading: Reading, number: usize) -> Result<Cell<'_>, Refusal> {

@@ -1,5 +1,5 @@
 /* Calls every function of include/shorgavel.h that is lent no gather buffer on a database of one page, and checks every number
- * that it answers; notes.c calls the others.
+ * that it answers; notes.c calls the others, and shortest.c has cells with varints that are not in their shortest form.
  *
  * The page is a table leaf of two rows, worked by hand: cell 0 is an idle load, a type 9, which the old reading shows as 0.
  */
@@ -156,27 +156,27 @@ static void two_values(values_call *fill, shorgavel_along first, int64_t z, int 
 
 static void cells(void) {
     shorgavel_cell c = shorgavel_old_cell(db, sizeof db, 0, 0);
-    CHECK(accepted(c.refused) && c.row == 1 && c.columns == 2);
+    CHECK(accepted(c.refused) && c.row == 1 && c.columns == 2 && c.shortest == 1);
     CHECK(along(c.along, 506, 508, 508, 512));
     two_values(shorgavel_old_values, c.along, 0, 8, 32);
 
     c = shorgavel_file_cell(db, sizeof db, 1, 0);
-    CHECK(accepted(c.refused) && c.row == 1 && c.columns == 2);
+    CHECK(accepted(c.refused) && c.row == 1 && c.columns == 2 && c.shortest == 1);
     CHECK(along(c.along, 506, 508, 508, 512));
     two_values(shorgavel_file_values, c.along, 1, 0, 0);
 
     c = shorgavel_guarded_cell(db, sizeof db, 1, 0);
-    CHECK(refused(c.refused, 21, 3, 1, 0, 0) && c.row == 0 && c.columns == 0);
+    CHECK(refused(c.refused, 21, 3, 1, 0, 0) && c.row == 0 && c.columns == 0 && c.shortest == 0);
     CHECK(along(c.along, 0, 0, 0, 0));
 
     c = shorgavel_old_cell(db, sizeof db, 0, 1);
-    CHECK(accepted(c.refused) && c.row == 2 && c.columns == 2);
+    CHECK(accepted(c.refused) && c.row == 2 && c.columns == 2 && c.shortest == 1);
     two_values(shorgavel_old_values, c.along, 0, 8, 32);
     c = shorgavel_file_cell(db, sizeof db, 1, 1);
-    CHECK(accepted(c.refused) && c.row == 2 && c.columns == 2);
+    CHECK(accepted(c.refused) && c.row == 2 && c.columns == 2 && c.shortest == 1);
     two_values(shorgavel_file_values, c.along, 0, 0, 0);
     c = shorgavel_guarded_cell(db, sizeof db, 1, 1);
-    CHECK(accepted(c.refused) && c.row == 2 && c.columns == 2);
+    CHECK(accepted(c.refused) && c.row == 2 && c.columns == 2 && c.shortest == 1);
     two_values(shorgavel_file_values, c.along, 0, 0, 0);
 
     CHECK(refused(shorgavel_file_cell(db, sizeof db, 1, 2).refused, 20, 0, 1, 0, 0));

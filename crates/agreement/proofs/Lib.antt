@@ -8,3 +8,4 @@ pub mod Agrees
 pub mod Along
 pub mod Differ
 pub mod Each
+pub mod Shortest

@@ -25,6 +25,10 @@ use Rattle.cells.specs.Located as cells
 use Rattle.cells.specs.Located.{Located}
 use Rattle.row.specs.declared.CursorAnswer.the-variants as cu
 use Rattle.row_values.specs.File as file
+use Rattle.row_head.specs.declared.CountAnswer.the-variants as co
+use Rattle.row_head.specs.declared.RowNumberAnswer.the-variants as ro
+use Rattle.row_head.specs.Head.{countOf, rowOf}
+use Rattle.guarded.specs.Guarded as guarded
 use Rattle.guarded.specs.Guarded.{locatedIn, cursorOf, shownOf}
 use Rattle.agreement.specs.Shows as means
 use Rattle.agreement.specs.Shows.{Meaning, null, integer, real, text, blob, none, row, oldShows, fileShows, guardedShows}
@@ -72,6 +76,12 @@ differingBy (shown l) = differing (l .cell)
 
 abbrev pub differingAt : ℕ → ℕ → List ℕ → Bool
 differingAt page i db = differingBy (cells.locatedOf (filePage page) i db)
+
+-- of the varints of a cell that it shows, guarded says what file says
+abbrev pub ShortestAsFile : Type 0
+ShortestAsFile = (page i : ℕ) (db : List ℕ) (n : ℕ) (z : ℤ) (s : Bool)
+    → (guarded.countOf page i db ≡ co.Shown n s → countOf (filePage page) i db ≡ co.Shown n s)
+    × (guarded.rowOf page i db ≡ ro.Shown z s → rowOf (filePage page) i db ≡ ro.Shown z s)
 
 -- where such a mark stands in a table leaf's record, the old reading refuses the cell or shows another list
 abbrev pub MarksDiffer : Type 0

@@ -69,8 +69,8 @@ pub data Row : Type 0 where
 
 abbrev pub rowFrom : CountAnswer → RowNumberAnswer → (ℕ → Meaning) → Row
 rowFrom (co.Refused refusal) number value = none refusal
-rowFrom (co.Shown n) (ro.Refused refusal) value = none refusal
-rowFrom (co.Shown n) (ro.Shown v) value = row v (listed n value)
+rowFrom (co.Shown n s) (ro.Refused refusal) value = none refusal
+rowFrom (co.Shown n s) (ro.Shown v t) value = row v (listed n value)
 
 -- pages count from 0
 unfoldable pub oldShows : ℕ → ℕ → List ℕ → Row

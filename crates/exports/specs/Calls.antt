@@ -13,7 +13,7 @@ use Rattle.shape.specs.Shape.{shapeOf, shapeAnswer}
 use Rattle.page.specs.declared.OpenAnswer.{OpenAnswer}
 use Rattle.page.specs.Open as page
 use Rattle.page.specs.Open.{openAnswer}
-use Rattle.cells.specs.Located.{locatedOf}
+use Rattle.cells.specs.Located.{Located, locatedOf}
 use Rattle.walk.specs.Counted.{countOf}
 use Rattle.trust.specs.Trust.{trustedCount}
 use Rattle.listing.specs.Listed.{listOf, trustedOf, listIn}
@@ -21,6 +21,7 @@ use Rattle.table.specs.declared.Entry.{Entry}
 use Rattle.table.specs.Entry.{entryFor, filled}
 use Rattle.table.specs.Page as table
 use Rattle.row.specs.Found.{foundBy}
+use Rattle.row_head.specs.Head.{shortestBy}
 use Rattle.row_values.specs.Old as old
 use Rattle.row_values.specs.File as file
 use Rattle.guarded.specs.Guarded as guarded
@@ -106,14 +107,18 @@ rowIn opened i db = usual.rowIn (eqb (opened .reading) 2) (openOf opened) i db
 
 -- ONE CELL
 
+-- located or refused
+abbrev pub cellFor : Answer Refusal Located → Cell
+cellFor x = cellBy (foundBy x) (shortestBy x)
+
 abbrev pub oldCell : ℕ → ℕ → List ℕ → Cell
-oldCell number i db = cellBy (foundBy (locatedOf (oldPage number) i db))
+oldCell number i db = cellFor (locatedOf (oldPage number) i db)
 
 abbrev pub fileCell : ℕ → ℕ → List ℕ → Cell
-fileCell number i db = cellBy (foundBy (locatedOf (filePage number) i db))
+fileCell number i db = cellFor (locatedOf (filePage number) i db)
 
 abbrev pub guardedCell : ℕ → ℕ → List ℕ → Cell
-guardedCell number i db = cellBy (foundBy (guarded.locatedOf number i db))
+guardedCell number i db = cellFor (guarded.locatedOf number i db)
 
 -- ITS VALUES
 

@@ -152,21 +152,24 @@ pub extern "C" fn shorgavel_row_in(db: &[u8], opened: Opened, i: usize, table: &
 pub extern "C" fn shorgavel_old_cell(db: &[u8], number: u32, i: usize) -> Cell
     ensures { λ r. ⌜ r ≡ oldCell number i (now (db .entry)) ⌝ }
 {
-    rows::cell_by(row::found(db, place::old(number), i))
+    let found = row::found(db, place::old(number), i);
+    rows::cell_by(found, row_head::shortest_of(db, found))
 }
 
 #[no_mangle]
 pub extern "C" fn shorgavel_file_cell(db: &[u8], number: u32, i: usize) -> Cell
     ensures { λ r. ⌜ r ≡ fileCell number i (now (db .entry)) ⌝ }
 {
-    rows::cell_by(row::found(db, place::file(number), i))
+    let found = row::found(db, place::file(number), i);
+    rows::cell_by(found, row_head::shortest_of(db, found))
 }
 
 #[no_mangle]
 pub extern "C" fn shorgavel_guarded_cell(db: &[u8], number: u32, i: usize) -> Cell
     ensures { λ r. ⌜ r ≡ guardedCell number i (now (db .entry)) ⌝ }
 {
-    rows::cell_by(guarded::found(db, number, i))
+    let found = guarded::found(db, number, i);
+    rows::cell_by(found, row_head::shortest_of(db, found))
 }
 
 // THE VALUES OF A ROW

@@ -86,9 +86,9 @@ no-gap page i db c e =
 -- AS MANY AS COUNTED
 
 pub as-many-as-counted : AsManyAsCounted
-as-many-as-counted page i db n e = go (locatedOf page i db) refl (sym (count-located page i db refl) ∙ e)
+as-many-as-counted page i db n s e = go (locatedOf page i db) refl (sym (count-located page i db refl) ∙ e)
   where
-    go : (x : Answer Refusal Located) → locatedOf page i db ≡ x → countBy x ≡ co.Shown n
+    go : (x : Answer Refusal Located) → locatedOf page i db ≡ x → countBy x ≡ co.Shown n s
         → ((k : ℕ) → k < n → There (columnOf page i k db)) × ((k : ℕ) → n ≤ k → columnOf page i k db ≡ cl.Refused (OnPage (page .number) re.NoSuchColumn))
     go (refused refusal) f g = never cc
     go (shown l) f g =

@@ -3,6 +3,7 @@
 use Prim.Native.Nat.{ℕ, suc, _+_, _≤_, _<_}
 use mathlib.Core.Path.{_≡_}
 use mathlib.Core.List.{List}
+use mathlib.Core.Bool.{Bool}
 use lib.ListN.{length}
 use Rattle.answers.specs.declared.Reason.the-variants as re
 use Rattle.answers.specs.declared.Refusal.the-variants.{OnPage}
@@ -28,7 +29,7 @@ pub record There (answer : ColumnAnswer) : Type 0 where
   pub is : answer ≡ cl.Shown t at
 
 abbrev pub AsManyAsCounted : Type 0
-AsManyAsCounted = (page : Page) (i : ℕ) (db : List ℕ) (n : ℕ) → countOf page i db ≡ co.Shown n
+AsManyAsCounted = (page : Page) (i : ℕ) (db : List ℕ) (n : ℕ) (s : Bool) → countOf page i db ≡ co.Shown n s
     → ((k : ℕ) → k < n → There (columnOf page i k db)) × ((k : ℕ) → n ≤ k → columnOf page i k db ≡ cl.Refused (OnPage (page .number) re.NoSuchColumn))
 
 -- the extent of a column's value, of w bytes, lies between the cursor's first value and its end, and in the bytes

@@ -22,6 +22,7 @@ use Rattle.page.proofs.Sites.{opening, open-site, steps}
 use Rattle.cells.specs.Located as cells
 use Rattle.cells.specs.Located.{Located}
 use Rattle.cells.proofs.Laws.{located-open, located-unopened}
+use Rattle.row.proofs.Placed.{Placed, placed-in}
 use Rattle.guarded.specs.Guarded.{isLeafTable, leafOnly, openOf, unmarked, locatedIn, locatedOf}
 
 -- THE KIND
@@ -139,6 +140,9 @@ module _ (n i : ℕ) (db : List ℕ) where
       go : (x : Answer Refusal Open) → openOf n db ≡ x → (x >>= (λ o. locatedIn o i db)) ≡ shown l → Opens n i db l
       go (refused refusal) q d = never cc
       go (shown o) q d = record { o = o; opened = leaf-opened n db q .0; is = guarded-in o i db d }
+
+  pub guarded-placed : {l : Located} → locatedOf n i db ≡ shown l → Placed l db
+  guarded-placed e = let g = guarded e in placed-in (g .o) i db (g .is .located)
 
   -- on a table leaf, the file reading's cell by its mark
   pub on-leaf : {s : Site} → siteOf (filePage n) db ≡ shown s → s .kind ≡ LeafTable → locatedOf n i db ≡ guardedBy i (cells.locatedOf (filePage n) i db)

@@ -127,29 +127,14 @@ pub fn found(db: &[u8], number: u32, i: usize) -> FoundAnswer
 pub fn count(db: &[u8], number: u32, i: usize) -> CountAnswer
     ensures { λ r. ⌜ r ≡ countOf number i (now (db .entry)) ⌝ }
 {
-    let answer = found(db, number, i);
-    match answer {
-        FoundAnswer::Refused(refusal) => CountAnswer::Refused(refusal),
-        FoundAnswer::Shown(found) => {
-            let cell = found.cell;
-            CountAnswer::Shown(cell.columns)
-        }
-    }
+    row_head::count_of(db, found(db, number, i))
 }
 
 // Its row number.
 pub fn row_number(db: &[u8], number: u32, i: usize) -> RowNumberAnswer
     ensures { λ r. ⌜ r ≡ rowOf number i (now (db .entry)) ⌝ }
 {
-    let answer = found(db, number, i);
-    match answer {
-        FoundAnswer::Refused(refusal) => RowNumberAnswer::Refused(refusal),
-        FoundAnswer::Shown(found) => {
-            let cell = found.cell;
-            let row = cell.row;
-            RowNumberAnswer::Shown(fields::signed_of(row.value))
-        }
-    }
+    row_head::row_number_of(db, found(db, number, i))
 }
 
 // The cursor before its first column.

@@ -47,6 +47,7 @@ use Rattle.spilled.proofs.Values.{column-gathered, value-found}
 use Rattle.marked.proofs.Guarded.{lent-guarded, marked-open, marked-value}
 use Rattle.judged.proofs.Agreement.{as-with-none}
 use Rattle.turns.specs.Refusals.{accepted, refusedBy}
+use Rattle.row_head.specs.Head.{shortestBy}
 use Rattle.turns.specs.Rows.{cellBy}
 use Rattle.sources.specs.Lent.{lentShown}
 use Rattle.filled.specs.Run.{wordsOf, valueAt, runFrom}
@@ -192,7 +193,7 @@ refused-alike true number i places db b o refusal op e k = go (marked.lentIn o i
 
 -- on its page
 whole-cell : (places : ℕ) (db : List ℕ) (x : Answer Refusal Located) (l : Located) (n : Answer Refusal Numbers) → x ≡ shown l
-    → SameCell (whole l) (rowLent places db (shown (whole l))) (cellBy (foundBy x)) n
+    → SameCell (whole l) (rowLent places db (shown (whole l))) (cellBy (foundBy x) (shortestBy x)) n
 whole-cell places db x l n e = rw e (refl, refl, refl)
 
 -- 18 is the number of a payload that spills
@@ -216,14 +217,14 @@ eighteen (InCell page cell fault) t = by fault t
 
 -- what is gathered was refused with it
 was-refused : (page : Page) (i room : ℕ) (db : List ℕ) {c : Spilled} → lentOf page i room db ≡ shown (gathered c)
-    → cellBy (foundBy (locatedOf page i db)) .refused .number ≡ 18
+    → cellBy (foundBy (locatedOf page i db)) (shortestBy (locatedOf page i db)) .refused .number ≡ 18
 was-refused page i room db {c} e = go (locatedOf page i db) refl
   where
     by : (refusal : Refusal) → locatedOf page i db ≡ refused refusal → (t : Bool) → spills refusal ≡ t → refusedBy refusal .number ≡ 18
     by refusal q true t = eighteen refusal t
     by refusal q false t = let d = sym e ∙ as-with-none page i room db .1 refusal q t in never cc
 
-    go : (x : Answer Refusal Located) → locatedOf page i db ≡ x → cellBy (foundBy x) .refused .number ≡ 18
+    go : (x : Answer Refusal Located) → locatedOf page i db ≡ x → cellBy (foundBy x) (shortestBy x) .refused .number ≡ 18
     go (shown l) q = let d = sym e ∙ as-with-none page i room db .0 l q in never cc
     go (refused refusal) q = by refusal q (spills refusal) refl
 

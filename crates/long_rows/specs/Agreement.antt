@@ -32,6 +32,7 @@ use Rattle.marked.specs.Marked as marked
 use Rattle.turns.specs.declared.types.Cell.{Cell}
 use Rattle.turns.specs.declared.types.LentRow.{LentRow}
 use Rattle.turns.specs.Refusals.{accepted}
+use Rattle.row_head.specs.Head.{shortestBy}
 use Rattle.turns.specs.Rows.{cellBy}
 use Rattle.sources.specs.Lent.{lentShown}
 use Rattle.filled.specs.Run.{wordsOf}
@@ -55,7 +56,7 @@ locatedBy true number i db = guarded.locatedOf number i db
 locatedBy false number i db = locatedOf (filePage number) i db
 
 abbrev pub cellIn : Bool → ℕ → ℕ → List ℕ → Cell
-cellIn g number i db = cellBy (foundBy (locatedBy g number i db))
+cellIn g number i db = cellBy (foundBy (locatedBy g number i db)) (shortestBy (locatedBy g number i db))
 
 -- ITS VALUES
 

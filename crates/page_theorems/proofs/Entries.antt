@@ -6,6 +6,7 @@ use Rattle.page.specs.declared.Open.{Open}
 use Rattle.page.specs.Open.{openOf, openAnswer}
 use Rattle.cells.specs.Located.{Located, locatedOf, locatedAnswer}
 use Rattle.cells.proofs.Laws.{located-open}
+use Rattle.shortest_cells.specs.Cells.{cellShortest}
 use Rattle.row_head.specs.declared.CountAnswer.the-variants as co
 use Rattle.row_head.specs.declared.RowNumberAnswer.the-variants as ro
 use Rattle.row_head.proofs.Told.{count-located, row-located}
@@ -23,6 +24,7 @@ entries-agree page room i db head e b =
     let entry : entryFor (openAnswer (openOf page db)) db i ≡ entryBy (locatedAnswer (shown (c .l))) =
     ap (λ (x : Answer Refusal Open). entryFor (openAnswer x) db i) (s .first)
     ∙ ap (λ (x : Answer Refusal Located). entryBy (locatedAnswer x)) (s .second) in (
-      count-located page i db located ∙ ap (λ (y : Entry). co.Shown (y .columns)) (sym entry),
-      row-located page i db located ∙ ap (λ (y : Entry). ro.Shown (y .row)) (sym entry),
+      cellShortest (c .l .cell),
+      count-located page i db located ∙ ap (λ (y : Entry). co.Shown (y .columns) (cellShortest (c .l .cell))) (sym entry),
+      row-located page i db located ∙ ap (λ (y : Entry). ro.Shown (y .row) (cellShortest (c .l .cell))) (sym entry),
     )

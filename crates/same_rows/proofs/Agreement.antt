@@ -23,8 +23,6 @@ use Rattle.page.specs.Open.{openAnswer}
 use Rattle.page.proofs.Sites.{open-page}
 use Rattle.cells.specs.Located.{Located, locatedIn}
 use Rattle.cells.proofs.Laws.{held, located-open}
-use Rattle.row.specs.declared.FoundAnswer.{FoundAnswer}
-use Rattle.row.specs.declared.FoundAnswer.the-variants as fo
 use Rattle.row.specs.declared.ColumnAnswer.{ColumnAnswer}
 use Rattle.row.specs.declared.ColumnAnswer.the-variants as cl
 use Rattle.row.specs.Found.{cursorIn, foundBy}
@@ -36,6 +34,7 @@ use Rattle.row_values.proofs.Told.{old-shown-located, file-shown-located}
 use Rattle.guarded.specs.Guarded as guarded
 use Rattle.guarded.proofs.Guard.{leaf-opened, guarded-in, guarded-open}
 use Rattle.guarded.proofs.Calls.{guarded-shown-located}
+use Rattle.usual.specs.declared.RowAnswer.{RowAnswer}
 use Rattle.usual.specs.declared.RowAnswer.the-variants as ra
 use Rattle.usual.specs.Usual as usual
 use Rattle.usual.proofs.Rows.{row-found}
@@ -43,10 +42,10 @@ use Rattle.turns.specs.declared.types.Opened.{Opened}
 use Rattle.turns.specs.declared.types.Shown.{Shown}
 use Rattle.turns.specs.Refusals.{accepted}
 use Rattle.pages.specs.Pages.{readingOf, openingBy, openOf}
-use Rattle.turns.specs.Rows.{cellBy}
+use Rattle.turns.specs.declared.types.Cell.{Cell}
 use Rattle.turns.specs.Shown.{oldShown, fileShown}
 use Rattle.filled.specs.Run.{valueAt, runFrom}
-use Rattle.exports.specs.Calls.{openingOf, rowIn}
+use Rattle.exports.specs.Calls.{openingOf, rowIn, cellFor}
 use Rattle.same_rows.specs.Agreement.{cellIn, shownOf, cellFrom, CellsAgree, RowShows, AsManyAsFit}
 use Rattle.filled.proofs.Counted.{whole-count}
 use Rattle.filled.proofs.Places.{wordsIn, place-holds, over-run}
@@ -69,7 +68,7 @@ shown-value file db t at = refl
 record Located-by (reading number i : ℕ) (db : List ℕ) (o : Opened) : Type 0 where
   x : Answer Refusal Located
   row : rowIn o i db ≡ usual.rowBy (foundBy x)
-  cell : cellIn reading number i db ≡ cellBy (foundBy x)
+  cell : cellIn reading number i db ≡ cellFor x
   shows : (k : ℕ) → shownOf reading number i k db ≡ shownIn (readingOf (o .reading)) db (columnBy k x)
   lies : (l : Located) → x ≡ shown l → locatedIn (openOf o) i db ≡ shown l
 
@@ -109,7 +108,7 @@ located-by reading number i db o e = go (eqb reading 0) (eqb reading 2) refl ref
         record {
           x = here;
           row = row-plain i db o (b .reading) refl;
-          cell = rw f (ap (λ (y : Answer Refusal Located). cellBy (foundBy y)) s);
+          cell = rw f (ap cellFor s);
           shows = λ k. rw f (ap oldShown (old-shown-located number i k db s) ∙ column-of i db o 0 old (columnBy k here) (b .reading) refl);
           lies = λ l d. d;
         }
@@ -120,7 +119,7 @@ located-by reading number i db o e = go (eqb reading 0) (eqb reading 2) refl ref
         record {
           x = here;
           row = row-guarded i db o (b .reading);
-          cell = rw (f, g) (ap (λ (y : Answer Refusal Located). cellBy (foundBy y)) s);
+          cell = rw (f, g) (ap cellFor s);
           shows = λ k. rw (f, g) (ap fileShown (guarded-shown-located number i k db s) ∙ column-of i db o 2 file (columnBy k here) (b .reading) refl);
           lies = λ l d. guarded-in (openOf o) i db d .located;
         }
@@ -131,21 +130,23 @@ located-by reading number i db o e = go (eqb reading 0) (eqb reading 2) refl ref
         record {
           x = here;
           row = row-plain i db o (b .reading) refl;
-          cell = rw (f, g) (ap (λ (y : Answer Refusal Located). cellBy (foundBy y)) s);
+          cell = rw (f, g) (ap cellFor s);
           shows = λ k. rw (f, g) (ap fileShown (file-shown-located number i k db s) ∙ column-of i db o 1 file (columnBy k here) (b .reading) refl);
           lies = λ l d. d;
         }
 
 -- THE CELL
 
-cell-from : (answer : FoundAnswer) → cellBy answer ≡ cellFrom (usual.rowBy answer)
-cell-from (fo.Refused refusal) = refl
-cell-from (fo.Shown f) = refl
+cell-from : (x : Answer Refusal Located) → cellFor x ≡ cellFrom (usual.rowBy (foundBy x)) (cellFor x .shortest)
+cell-from (refused refusal) = refl
+cell-from (shown l) = refl
 
 pub cells-agree : CellsAgree
 cells-agree reading number i db o e =
     let b = located-by reading number i db o e in
-    b .cell ∙ cell-from (foundBy (b .x)) ∙ ap cellFrom (sym (b .row))
+    b .cell ∙ cell-from (b .x)
+    ∙ ap (λ (r : RowAnswer). cellFrom r (cellFor (b .x) .shortest)) (sym (b .row))
+    ∙ ap (λ (c : Cell). cellFrom (rowIn o i db) (c .shortest)) (sym (b .cell))
 
 -- ITS VALUES
 

@@ -37,15 +37,15 @@ shownOf reading number i k db =
 
 -- THE CELL
 
--- a row as the call on its cell answers it
-abbrev pub cellFrom : RowAnswer → Cell
-cellFrom (ra.Refused refusal) = noCell refusal
-cellFrom (ra.Shown number columns c) = cellOf number columns c
+-- a row as the call on its cell answers it; that call alone tells of its varints
+abbrev pub cellFrom : RowAnswer → ℕ → Cell
+cellFrom (ra.Refused refusal) shortest = noCell refusal
+cellFrom (ra.Shown number columns c) shortest = cellOf number columns c shortest
 
 abbrev pub CellsAgree : Type 0
 CellsAgree = (reading number i : ℕ) (db : List ℕ) (o : Opened)
     → openingOf reading number db ≡ record { refused = accepted; opened = o }
-    → cellIn reading number i db ≡ cellFrom (rowIn o i db)
+    → cellIn reading number i db ≡ cellFrom (rowIn o i db) (cellIn reading number i db .shortest)
 
 -- ITS VALUES
 

@@ -108,7 +108,10 @@ fn row(db: &[u8], out: &mut [u8], at: usize, telling: Telling, number: u32, i: u
             telling,
             answers::numbers_of(refusal),
         ),
-        RowNumberAnswer::Shown(z) => {
+        RowNumberAnswer::Shown {
+            number: z,
+            shortest: _,
+        } => {
             let n = field_i64(out, at, z);
             counted(db, out, n, number, i)
         }
@@ -120,7 +123,10 @@ fn counted(db: &[u8], out: &mut [u8], at: usize, number: u32, i: usize) -> usize
     let answer = row_head::count(db, place::old(number), i);
     match answer {
         CountAnswer::Refused(_) => text(out, at, b" refused\n"),
-        CountAnswer::Shown(count) => {
+        CountAnswer::Shown {
+            columns: count,
+            shortest: _,
+        } => {
             let n = field(out, at, count as u64);
             columns(db, out, n, number, i, count)
         }

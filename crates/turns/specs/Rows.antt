@@ -1,5 +1,6 @@
 -- Cells and rows as C has them, and a cursor along a row.
 use Prim.Native.Nat.{ℕ}
+use mathlib.Core.Bool.{Bool, true, false}
 use lib.IntN.{pos}
 use Rattle.reading.specs.declared.Reading.{Reading}
 use Rattle.answers.specs.declared.Refusal.{Refusal}
@@ -30,16 +31,21 @@ filledOf n c = record { count = n; along = alongOf c }
 
 -- CELLS AND ROWS
 
--- a cell of that row number and so many columns
-abbrev pub cellOf : ℕ → ℕ → Cursor → Cell
-cellOf number columns c = record { refused = accepted; row = rowNumber number; columns = columns; along = alongOf c }
+abbrev pub digitOf : Bool → ℕ
+digitOf true = 1
+digitOf false = 0
+
+-- a cell of that row number and so many columns, and whether its varints are in their shortest form
+abbrev pub cellOf : ℕ → ℕ → Cursor → ℕ → Cell
+cellOf number columns c shortest =
+    record { refused = accepted; row = rowNumber number; columns = columns; along = alongOf c; shortest = shortest }
 
 abbrev pub noCell : Refusal → Cell
-noCell refusal = record { refused = refusedBy refusal; row = pos 0; columns = 0; along = nowhere }
+noCell refusal = record { refused = refusedBy refusal; row = pos 0; columns = 0; along = nowhere; shortest = 0 }
 
-abbrev pub cellBy : FoundAnswer → Cell
-cellBy (fo.Refused refusal) = noCell refusal
-cellBy (fo.Shown f) = cellOf (f .cell .row .value) (f .cell .columns) (f .cursor)
+abbrev pub cellBy : FoundAnswer → Bool → Cell
+cellBy (fo.Refused refusal) shortest = noCell refusal
+cellBy (fo.Shown f) shortest = cellOf (f .cell .row .value) (f .cell .columns) (f .cursor) (digitOf shortest)
 
 abbrev pub noRow : Refusal → Row
 noRow refusal = record { refused = refusedBy refusal; number = pos 0; columns = 0; count = 0; along = nowhere }

@@ -1,6 +1,6 @@
 // Cells and rows by numbers, and a cursor along a row, there and back.
 ghost use mathlib.Core.Path.{_≡_};
-ghost use Rattle.turns.specs.Rows.{nowhere, alongOf, cursorOf, filledOf, cellBy, noRow, rowOf};
+ghost use Rattle.turns.specs.Rows.{nowhere, alongOf, cursorOf, filledOf, digitOf, cellBy, noRow, rowOf};
 use crate::refusals::no_refusal;
 use crate::refusals::refused_by;
 use crate::types::Along;
@@ -62,8 +62,14 @@ pub fn filled_of(count: usize, cursor: Cursor) -> Filled
 
 // CELLS AND ROWS
 
-pub fn cell_by(answer: FoundAnswer) -> Cell
-    ensures { λ r. ⌜ r ≡ cellBy answer ⌝ }
+fn digit(shortest: bool) -> u8
+    ensures { λ r. ⌜ r ≡ digitOf shortest ⌝ }
+{
+    if shortest { 1 } else { 0 }
+}
+
+pub fn cell_by(answer: FoundAnswer, shortest: bool) -> Cell
+    ensures { λ r. ⌜ r ≡ cellBy answer shortest ⌝ }
 {
     match answer {
         FoundAnswer::Refused(refusal) => Cell {
@@ -71,6 +77,7 @@ pub fn cell_by(answer: FoundAnswer) -> Cell
             row: 0,
             columns: 0,
             along: no_cursor(),
+            shortest: 0,
         },
         FoundAnswer::Shown(found) => {
             let cell: cell::Cell = found.cell;
@@ -81,6 +88,7 @@ pub fn cell_by(answer: FoundAnswer) -> Cell
                 row: fields::signed_of(row.value),
                 columns: cell.columns,
                 along: along_of(cursor),
+                shortest: digit(shortest),
             }
         }
     }

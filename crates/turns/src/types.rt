@@ -81,6 +81,8 @@ pub struct Cell {
     pub row: i64,
     pub columns: usize,
     pub along: Along,
+    // 1 where every varint that was taken from it is in its shortest form.
+    pub shortest: u8,
 }
 
 #[repr(C)]

@@ -62,6 +62,11 @@ pub fn leaf(bytes: &mut [u8], page: usize, rows: &[(i64, Vec<u8>)]) {
     fill(bytes, page, 13, &[], &rows.iter().map(cell).collect::<Vec<_>>());
 }
 
+/// A table leaf with cells as they are.
+pub fn raw_leaf(bytes: &mut [u8], page: usize, cells: &[&[u8]]) {
+    fill(bytes, page, 13, &[], &cells.iter().map(|cell| cell.to_vec()).collect::<Vec<_>>());
+}
+
 /// An interior table page: children with their keys, and the rightmost child.
 pub fn interior(bytes: &mut [u8], page: usize, cells: &[(u8, i64)], rightmost: u8) {
     let cell = |&(child, key): &(u8, i64)| [vec![0, 0, 0, child], varint(key)].concat();

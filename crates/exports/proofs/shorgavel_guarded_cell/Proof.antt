@@ -1,4 +1,13 @@
 -- The guarded cell, turned.
+use mathlib.Core.Path.{ap, _∙_}
+use denote.Ref.{now}
+use Rattle.row.specs.declared.FoundAnswer.{FoundAnswer}
+use Rattle.row.specs.Found.{foundBy}
+use Rattle.row_head.specs.Head.{shortestFor}
+use Rattle.row_head.proofs.Told.{shortest-located}
+use Rattle.guarded.specs.Guarded.{locatedOf}
+use Rattle.guarded.proofs.Guard.{guarded-placed}
+use Rattle.turns.specs.Rows.{cellBy}
 use borrow.Author.Needs.{needs}
 use Rattle.exports.proofs.shorgavel_guarded_cell.Statement.{statement}
 use Rattle.exports.proofs.shorgavel_guarded_cell.Tie as tie
@@ -6,11 +15,21 @@ use Rattle.exports.proofs.shorgavel_guarded_cell.Tie as tie
 found-requires : tie.Need-found-requires
 found-requires c κs = search needs
 
+shortest-of-requires : tie.Need-shortest-of-requires
+shortest-of-requires c κs = search needs
+
 cell-by-requires : tie.Need-cell-by-requires
 cell-by-requires c κs = search needs
 
 returns : tie.Need-returns
-returns c = rw (c .before .found .ensures) at (c .cell-by .ensures)
+returns c =
+    let a = c .before .before .before .before .args in
+    let x = locatedOf (a .number) (a .i) (now (a .db)) in
+    let found = c .before .before .found .ensures in
+    let shortest =
+    c .before .shortest-of .ensures ∙ ap (λ (y : FoundAnswer). shortestFor y (now (a .db))) found
+    ∙ shortest-located (now (a .db)) x (λ l e. guarded-placed (a .number) (a .i) (now (a .db)) e) in
+    c .cell-by .ensures ∙ ap (λ (y : FoundAnswer). cellBy y (c .before .shortest-of .result)) found ∙ ap (cellBy (foundBy x)) shortest
 
 pub shorgavel-guarded-cell-spec : {M : Type 1} → statement M
-shorgavel-guarded-cell-spec = tie.close (tie.spec found-requires cell-by-requires returns)
+shorgavel-guarded-cell-spec = tie.close (tie.spec found-requires shortest-of-requires cell-by-requires returns)

@@ -1,13 +1,11 @@
--- The row number is the found cell's, as 64 bits of two's complement.
-use mathlib.Core.Path.{sym, ap, _∙_}
-use mir.Syntax.{w64}
-use mir.Facts.{toZ-ofZ}
+-- The cell that is found tells what the one that is located has.
+use mathlib.Core.Path.{ap, _∙_}
 use denote.Ref.{now}
-use Rattle.row_head.specs.declared.RowNumberAnswer.the-variants as ro
-use Rattle.row_head.specs.Head.{rowBy}
-use Rattle.row.proofs.Told.{told-refused}
-use Rattle.row_head.proofs.Told.{told-shown}
+use Rattle.row.specs.declared.FoundAnswer.{FoundAnswer}
+use Rattle.row_head.specs.Head.{rowFor}
+use Rattle.row_head.proofs.Told.{row-found}
 use Rattle.guarded.specs.Guarded.{locatedOf, rowOf}
+use Rattle.guarded.proofs.Guard.{guarded-placed}
 use borrow.Author.Needs.{needs}
 use Rattle.guarded.proofs.row_number.Statement.{statement}
 use Rattle.guarded.proofs.row_number.Tie as tie
@@ -15,35 +13,15 @@ use Rattle.guarded.proofs.row_number.Tie as tie
 found-requires : tie.Need-found-requires
 found-requires c κs = search needs
 
-enum-known-answer : tie.Need-enum-known-answer
-enum-known-answer c = search needs
-
-enum-known-answer-2 : tie.Need-enum-known-answer-2
-enum-known-answer-2 c = search needs
-
-signed-of-requires : tie.Need-signed-of-requires
-signed-of-requires c κs = search needs
+row-number-of-requires : tie.Need-row-number-of-requires
+row-number-of-requires c κs = search needs
 
 returns : tie.Need-returns
 unfolding rowOf
 returns c =
-    let a = c .before .before .before .before .before .args in
-    sym (ap rowBy (told-refused (locatedOf (a .number) (a .i) (now (a .db))) (sym (c .before .before .before .found .ensures) ∙ c .before .answer .given .1)))
-
-returns-2 : tie.Need-returns-2
-unfolding rowOf
-returns-2 c =
-    let a = c .before .before .before .before .before .before .before .before .args in
-    ap ro.Shown (toZ-ofZ {w = w64} (record { sfits = c .signed-of .ok }) ∙ c .signed-of .ensures)
-    ∙ sym (told-shown (locatedOf (a .number) (a .i) (now (a .db))) (sym (c .before .before .before .before .before .before .found .ensures) ∙ c .before .before .before .before .answer2 .given .1) .1)
+    let a = c .before .before .before .args in
+    c .row-number-of .ensures ∙ ap (λ (x : FoundAnswer). rowFor x (now (a .db))) (c .before .found .ensures)
+    ∙ row-found (now (a .db)) (locatedOf (a .number) (a .i) (now (a .db))) (λ l e. guarded-placed (a .number) (a .i) (now (a .db)) e)
 
 pub row-number-spec : {M : Type 1} → statement M
-row-number-spec =
-    tie.close
-    (tie.spec
-    found-requires
-    enum-known-answer
-    enum-known-answer-2
-    signed-of-requires
-    returns
-    returns-2)
+row-number-spec = tie.close (tie.spec found-requires row-number-of-requires returns)

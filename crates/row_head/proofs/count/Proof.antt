@@ -1,38 +1,27 @@
--- The cell decides.
+-- The cell that is found tells what the one that is located has.
 use mathlib.Core.Path.{sym, ap, _∙_}
 use denote.Ref.{now}
-use Rattle.cells.specs.declared.Located as dl
 use Rattle.cells.specs.Located.{locatedOf}
-use Rattle.cells.proofs.Laws.{kept, located-unanswered}
-use Rattle.row_head.specs.declared.CountAnswer.the-variants as co
-use Rattle.row_head.specs.Head.{countOf}
+use Rattle.row.specs.declared.FoundAnswer.{FoundAnswer}
+use Rattle.row.proofs.Placed.{placed}
+use Rattle.row_head.specs.Head.{countOf, countFor}
+use Rattle.row_head.proofs.Told.{count-found}
 use borrow.Author.Needs.{needs}
 use Rattle.row_head.proofs.count.Statement.{statement}
 use Rattle.row_head.proofs.count.Tie as tie
 
-cell-at-requires : tie.Need-cell-at-requires
-cell-at-requires c κs = search needs
+found-requires : tie.Need-found-requires
+found-requires c κs = search needs
 
-enum-known-answer : tie.Need-enum-known-answer
-enum-known-answer c = search needs
-
-enum-known-answer-2 : tie.Need-enum-known-answer-2
-enum-known-answer-2 c = search needs
+count-of-requires : tie.Need-count-of-requires
+count-of-requires c κs = search needs
 
 returns : tie.Need-returns
 unfolding countOf
 returns c =
-    let a = c .before .before .before .before .before .args in
-    rw (located-unanswered (locatedOf (a .page) (a .i) (now (a .db))) (sym (c .before .before .before .cell-at .ensures) ∙ c .before .answer .given .1))
-
-returns-2 : tie.Need-returns-2
-unfolding countOf
-returns-2 c =
-    let k = c .before .before .before .before in
-    let a = k .before .before .args in
-    let t = kept (locatedOf (a .page) (a .i) (now (a .db))) (sym (k .cell-at .ensures) ∙ c .before .before .answer2 .given .1) in
-    rw (t .is) (sym (ap (λ (x : dl.Located). co.Shown (x .cell .columns)) (t .same)))
+    let a = c .before .before .before .args in
+    c .count-of .ensures ∙ ap (λ (x : FoundAnswer). countFor x (now (a .db))) (c .before .found .ensures)
+    ∙ count-found (now (a .db)) (locatedOf (a .page) (a .i) (now (a .db))) (λ l e. placed (a .page) (a .i) (now (a .db)) e)
 
 pub count-spec : {M : Type 1} → statement M
-count-spec =
-    tie.close (tie.spec cell-at-requires enum-known-answer enum-known-answer-2 returns returns-2)
+count-spec = tie.close (tie.spec found-requires count-of-requires returns)

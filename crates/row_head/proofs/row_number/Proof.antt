@@ -1,51 +1,27 @@
--- The cell decides.
+-- The cell that is found tells what the one that is located has.
 use mathlib.Core.Path.{sym, ap, _∙_}
 use denote.Ref.{now}
-use mir.Syntax.{w64}
-use mir.Facts.{toZ-ofZ}
-use Rattle.cells.specs.declared.Located as dl
-use Rattle.cells.specs.Located.{rowNumber, locatedOf}
-use Rattle.cells.proofs.Laws.{kept, located-unanswered}
-use Rattle.row_head.specs.declared.RowNumberAnswer.the-variants as ro
-use Rattle.row_head.specs.Head.{rowOf}
+use Rattle.cells.specs.Located.{locatedOf}
+use Rattle.row.specs.declared.FoundAnswer.{FoundAnswer}
+use Rattle.row.proofs.Placed.{placed}
+use Rattle.row_head.specs.Head.{rowOf, rowFor}
+use Rattle.row_head.proofs.Told.{row-found}
 use borrow.Author.Needs.{needs}
 use Rattle.row_head.proofs.row_number.Statement.{statement}
 use Rattle.row_head.proofs.row_number.Tie as tie
 
-cell-at-requires : tie.Need-cell-at-requires
-cell-at-requires c κs = search needs
+found-requires : tie.Need-found-requires
+found-requires c κs = search needs
 
-enum-known-answer : tie.Need-enum-known-answer
-enum-known-answer c = search needs
-
-enum-known-answer-2 : tie.Need-enum-known-answer-2
-enum-known-answer-2 c = search needs
-
-row-of-requires : tie.Need-row-of-requires
-row-of-requires c κs = search needs
+row-number-of-requires : tie.Need-row-number-of-requires
+row-number-of-requires c κs = search needs
 
 returns : tie.Need-returns
 unfolding rowOf
 returns c =
-    let a = c .before .before .before .before .before .args in
-    rw (located-unanswered (locatedOf (a .page) (a .i) (now (a .db))) (sym (c .before .before .before .cell-at .ensures) ∙ c .before .answer .given .1))
-
-returns-2 : tie.Need-returns-2
-unfolding rowOf
-returns-2 c =
-    let k = c .before .before .before .before in
-    let a = k .before .before .args in
-    let t = kept (locatedOf (a .page) (a .i) (now (a .db))) (sym (k .cell-at .ensures) ∙ c .before .before .answer2 .given .1) in
-    let n = toZ-ofZ {w = w64} (record { sfits = c .row-of .ok }) ∙ c .row-of .ensures in
-    rw (t .is) (ap ro.Shown n ∙ sym (ap (λ (x : dl.Located). ro.Shown (rowNumber (x .cell .row .value))) (t .same)))
+    let a = c .before .before .before .args in
+    c .row-number-of .ensures ∙ ap (λ (x : FoundAnswer). rowFor x (now (a .db))) (c .before .found .ensures)
+    ∙ row-found (now (a .db)) (locatedOf (a .page) (a .i) (now (a .db))) (λ l e. placed (a .page) (a .i) (now (a .db)) e)
 
 pub row-number-spec : {M : Type 1} → statement M
-row-number-spec =
-    tie.close
-    (tie.spec
-    cell-at-requires
-    enum-known-answer
-    enum-known-answer-2
-    row-of-requires
-    returns
-    returns-2)
+row-number-spec = tie.close (tie.spec found-requires row-number-of-requires returns)

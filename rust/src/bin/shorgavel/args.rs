@@ -13,6 +13,8 @@ Usage: shorgavel COMMAND FILE
 
 Commands:
   trust FILE     table by table, whether the printed sheets and the gauge say the same in every row
+  writer FILE    table by table, whether the rows could have come from the gauge and from SQLite, by how their numbers
+                 are written
   header FILE    the fields of the database header, in the old and the file reading
   page FILE N    the head of page N and the entries of its cells
   tables FILE    the tables: a line each with root page, number of rows and name
@@ -31,25 +33,30 @@ Options:
 FILE is read whole, up to 1,073,741,824 bytes; - is standard input. All is shown on standard output. Pages count from 1,
 and from 0 in `page` with --reading old; cells and columns count from 0.
 
-`tables` has a line for each table, and below it what there is to say of it, indented. Where its rows cannot be listed, a
-word stands for their number: `refused`, a damaged tree; `keyed`, a table without row numbers; `virtual`, one without pages.
-`trust`, `compare` and `sheet` go table by table. Pages of no table, which were deleted or are damaged, do not count; the
-last two tell them apart. `trust` says of each table that all of its rows agree, or which is the first that parts, and why.
+`tables` has a line for each table, and below it what there is to say of it, indented. Where its rows cannot be listed,
+a word stands for their number: `refused`, a damaged tree; `keyed`, a table without row numbers; `virtual`, one without
+pages.
+`trust`, `writer`, `compare` and `sheet` go table by table. Pages of no table, which were deleted or are damaged, do not
+count; all but `trust` tell them apart. `trust` says of each table that all of its rows agree, or which is the first
+that parts, and why. `writer` says of each how many rows hold a varint that is not in its shortest form; SQLite and the
+gauge write none.
 
 Exit status:
-  0  done; for `compare`, rows of all tables were compared and none parts; for `trust`, every row of all tables agrees
+  0  done; for `compare`, rows of all tables were compared and none parts; for `trust`, every row of all tables agrees;
+     for `writer`, every row that could be asked, and one could, has all of its varints in their shortest form
   1  the database, the page or the table is refused; for `compare` and `trust`, a row parts or a table is refused; for
-     `trust`, a row is refused by old and file alike
+     `trust`, a row is refused by old and file alike; for `writer`, something else wrote a row, or a table is refused
   2  the words of the command are wrong
   3  a file cannot be read or written
   4  the file is cut: only some of its pages are there, and these were shown (all but `header` and `page`)
-  5  for `compare` and `trust`, there is no row to compare
+  5  for `compare` and `trust`, there is no row to compare; for `writer`, there is none that could be asked
 ";
 
 /// What is asked for.
 pub enum Order {
     Say(String),
     Trust(OsString),
+    Writer(OsString),
     Header(OsString),
     Page(OsString, u32, Reading),
     Tables(OsString),
@@ -104,6 +111,7 @@ fn order(words: Words) -> Result<Order, Failure> {
     let mut next = |what: &str| plain.next().ok_or_else(|| wrong(format!("{name}: {what} is missing")));
     let order = match name.as_str() {
         "trust" => Order::Trust(next("FILE")?),
+        "writer" => Order::Writer(next("FILE")?),
         "header" => Order::Header(next("FILE")?),
         "page" => Order::Page(next("FILE")?, number(&next("N")?)?, words.reading.unwrap_or(Reading::File)),
         "tables" => Order::Tables(next("FILE")?),

@@ -6,7 +6,7 @@ use crate::leaf::{Count, Leaf, Lent};
 use crate::out::Out;
 use crate::progress::Progress;
 use crate::reason;
-use crate::trees::Trees;
+use crate::trees::{Trees, Work};
 use crate::words;
 use shorgavel::{Gauge, Reading, TextEncoding};
 use std::io::{self, Write};
@@ -28,7 +28,7 @@ pub fn show(database: &Database, out: &mut Out) -> Result<(), Failure> {
     }
     let Count { cells, parted, refused } = count;
     writeln!(out, "{cells} cells compared: {parted} part, {refused} are refused by old and file alike")?;
-    trees.verdict(parted, cells)
+    trees.verdict(Work::Compare, parted, cells)
 }
 
 /// What pages are compared with.

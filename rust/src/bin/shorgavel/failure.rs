@@ -1,5 +1,6 @@
 //! Why the command ends before it is done, or not well, and with which status.
 
+use crate::trees::Work;
 use shorgavel::{PageCount, Refusal};
 use std::io::{self, ErrorKind};
 use std::process::ExitCode;
@@ -7,10 +8,10 @@ use std::process::ExitCode;
 pub enum Failure {
     /// The database, a page or a table is refused.
     Refused(Refusal),
-    /// The readings part: what was to be found out, and told by the status.
-    Parted,
-    /// A table was not compared, as the output tells.
-    Uncompared,
+    /// The readings part, or something else wrote a row: what was to be found out, and told by the status.
+    Found,
+    /// A table was left out, as the output tells.
+    Partial(Work),
     /// The words are wrong.
     Usage(String),
     /// A file cannot be read.
@@ -19,8 +20,8 @@ pub enum Failure {
     Unwritten(io::Error),
     /// Only a part of the file's pages is there. What there is was shown.
     Cut(PageCount),
-    /// There was no row to compare.
-    Nothing,
+    /// There was no row.
+    Nothing(Work),
 }
 
 impl Failure {
@@ -33,8 +34,9 @@ impl Failure {
     pub fn say(&self) {
         match self {
             Failure::Refused(refusal) => eprintln!("shorgavel: {refusal}"),
-            Failure::Parted => {}
-            Failure::Uncompared => eprintln!("shorgavel: not all tables are compared"),
+            Failure::Found => {}
+            Failure::Partial(Work::Compare) => eprintln!("shorgavel: not all tables are compared"),
+            Failure::Partial(Work::Ask) => eprintln!("shorgavel: not all tables are asked"),
             Failure::Usage(why) => eprintln!("shorgavel: {why}; `shorgavel --help` has the words"),
             Failure::Unread(file, error) => eprintln!("shorgavel: {file} cannot be read: {error}"),
             Failure::Unwritten(_) if self.is_broken_pipe() => {}
@@ -42,18 +44,19 @@ impl Failure {
             Failure::Cut(PageCount { count, present }) => {
                 eprintln!("shorgavel: the file is cut: {present} of its {count} pages are there");
             }
-            Failure::Nothing => eprintln!("shorgavel: there is no row to compare"),
+            Failure::Nothing(Work::Compare) => eprintln!("shorgavel: there is no row to compare"),
+            Failure::Nothing(Work::Ask) => eprintln!("shorgavel: there is no row that could be asked"),
         }
     }
 
     fn status(&self) -> u8 {
         match self {
-            Failure::Refused(_) | Failure::Parted | Failure::Uncompared => 1,
+            Failure::Refused(_) | Failure::Found | Failure::Partial(_) => 1,
             Failure::Usage(_) => 2,
             Failure::Unwritten(_) if self.is_broken_pipe() => 0,
             Failure::Unread(..) | Failure::Unwritten(_) => 3,
             Failure::Cut(_) => 4,
-            Failure::Nothing => 5,
+            Failure::Nothing(_) => 5,
         }
     }
 

@@ -5,6 +5,7 @@
 mod args;
 mod compare;
 mod failure;
+mod folded;
 mod header;
 mod input;
 mod leaf;
@@ -18,6 +19,7 @@ mod tables;
 mod trees;
 mod trust;
 mod words;
+mod writer;
 
 use args::Order;
 use failure::Failure;
@@ -48,6 +50,7 @@ fn show(order: Order, out: &mut Out) -> Result<(), Failure> {
             Ok(())
         }
         Order::Trust(file) => whole(&file, |database| trust::show(database, out)),
+        Order::Writer(file) => whole(&file, |database| writer::show(database, out)),
         Order::Header(file) => header::show(&Database::read(&file)?, out),
         Order::Page(file, number, reading) => page::show(&Database::read(&file)?, number, reading, out),
         Order::Tables(file) => whole(&file, |database| tables::show(database, out)),

@@ -1,4 +1,4 @@
-//! The tables of a database by their pages, and the pages that are of none, for `trust`, `compare` and `sheet`.
+//! The tables of a database by their pages, and the pages that are of none, for `trust`, `writer`, `compare` and `sheet`.
 
 use crate::failure::Failure;
 use crate::words;
@@ -11,6 +11,13 @@ pub struct Trees {
     pub unread: Vec<Unread>,
     /// The table leaves with rows that are of no table: they were deleted, or the way to them is damaged.
     pub loose: Vec<u32>,
+}
+
+/// What is done with the rows of tables.
+#[derive(Clone, Copy)]
+pub enum Work {
+    Compare,
+    Ask,
 }
 
 pub struct Tree {
@@ -78,14 +85,14 @@ impl Trees {
         self.tables.iter().any(faulty) || !(self.unread.is_empty() || self.loose.is_empty())
     }
 
-    /// Content is who has compared something, and all that there is.
-    pub fn verdict(&self, parted: usize, compared: usize) -> Result<(), Failure> {
-        if parted > 0 {
-            Err(Failure::Parted)
+    /// Content is who has worked through some rows, and all that there are, and found none to tell.
+    pub fn verdict(&self, work: Work, found: usize, rows: usize) -> Result<(), Failure> {
+        if found > 0 {
+            Err(Failure::Found)
         } else if self.is_partial() {
-            Err(Failure::Uncompared)
-        } else if compared == 0 {
-            Err(Failure::Nothing)
+            Err(Failure::Partial(work))
+        } else if rows == 0 {
+            Err(Failure::Nothing(work))
         } else {
             Ok(())
         }

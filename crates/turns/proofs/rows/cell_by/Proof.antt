@@ -26,17 +26,21 @@ signed-of-requires c κs = search needs
 along-of-requires : tie.Need-along-of-requires
 along-of-requires c κs = search needs
 
+digit-requires : tie.Need-digit-requires
+digit-requires c κs = search needs
+
 returns : tie.Need-returns
 returns c = rw (c .before .before .before .answer .given .1, c .before .refused-by .ensures, c .no-cursor .ensures)
 
 returns-2 : tie.Need-returns-2
 returns-2 c =
     rw (
-      c .before .before .before .before .before .before .before .answer2 .given .1,
-      c .before .before .no-refusal .ensures,
-      toZ-ofZ {w = w64} (record { sfits = c .before .signed-of .ok }),
-      c .before .signed-of .ensures,
-      c .along-of .ensures,
+      c .before .before .before .before .before .before .before .before .answer2 .given .1,
+      c .before .before .before .no-refusal .ensures,
+      toZ-ofZ {w = w64} (record { sfits = c .before .before .signed-of .ok }),
+      c .before .before .signed-of .ensures,
+      c .before .along-of .ensures,
+      c .digit .ensures,
     )
 
 pub cell-by-spec : {M : Type 1} → statement M
@@ -50,5 +54,6 @@ cell-by-spec =
     no-refusal-requires
     signed-of-requires
     along-of-requires
+    digit-requires
     returns
     returns-2)

@@ -1,14 +1,14 @@
 //! `trust`: of each table whether the printed sheets and the gauge say the same in all of its rows, and if not, which row is
 //! the first that parts. It is made to be printed and handed over.
 
-mod folded;
 mod parting;
 mod verdict;
 
 use crate::failure::Failure;
+use crate::folded;
 use crate::input::Database;
 use crate::out::Out;
-use crate::trees::{Apart, Tree, Trees};
+use crate::trees::{Apart, Tree, Trees, Work};
 use crate::words::{self, counted};
 use shorgavel::{Gauge, Place, Reading, Refusal, TextEncoding};
 use verdict::Verdict;
@@ -34,7 +34,7 @@ pub fn show(database: &Database, out: &mut Out) -> Result<(), Failure> {
     }
     out.text(b"\n");
     verdict.put(database, &trees, out);
-    trees.verdict(verdict.parting, verdict.rows)
+    trees.verdict(Work::Compare, verdict.parting, verdict.rows)
 }
 
 /// How the two stand to each other in a table.

@@ -1,6 +1,6 @@
 //! Why a row parts, in words for who printed the sheet and who asks what the gauge wrote.
 
-use super::folded;
+use crate::folded;
 use crate::leaf::{Leaf, Lent, Standing, Trio};
 use crate::out::Out;
 use crate::reason::{self, Cause};

@@ -1,6 +1,7 @@
 //! What is said of the whole file, last of all.
 
-use super::{folded, Found};
+use super::Found;
+use crate::folded;
 use crate::input::Database;
 use crate::out::Out;
 use crate::trees::Trees;

@@ -1,0 +1,3 @@
+pub mod Shortest
+pub mod Forms
+pub mod Rows
