@@ -18,6 +18,8 @@ pub enum Failure {
     Unread(String, io::Error),
     /// The output cannot be written.
     Unwritten(io::Error),
+    /// The file that the output goes to cannot be written.
+    UnwrittenFile(String, io::Error),
     /// Only a part of the file's pages is there. What there is was shown.
     Cut(PageCount),
     /// There was no row.
@@ -41,6 +43,7 @@ impl Failure {
             Failure::Unread(file, error) => eprintln!("shorgavel: {file} cannot be read: {error}"),
             Failure::Unwritten(_) if self.is_broken_pipe() => {}
             Failure::Unwritten(error) => eprintln!("shorgavel: the output cannot be written: {error}"),
+            Failure::UnwrittenFile(file, error) => eprintln!("shorgavel: {file} cannot be written: {error}"),
             Failure::Cut(PageCount { count, present }) => {
                 eprintln!("shorgavel: the file is cut: {present} of its {count} pages are there");
             }
@@ -54,7 +57,7 @@ impl Failure {
             Failure::Refused(_) | Failure::Found | Failure::Partial(_) => 1,
             Failure::Usage(_) => 2,
             Failure::Unwritten(_) if self.is_broken_pipe() => 0,
-            Failure::Unread(..) | Failure::Unwritten(_) => 3,
+            Failure::Unread(..) | Failure::Unwritten(_) | Failure::UnwrittenFile(..) => 3,
             Failure::Cut(_) => 4,
             Failure::Nothing(_) => 5,
         }

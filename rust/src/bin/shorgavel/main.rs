@@ -10,22 +10,25 @@ mod header;
 mod input;
 mod leaf;
 mod lines;
+mod options;
 mod out;
 mod page;
 mod progress;
 mod reason;
 mod sheet;
 mod tables;
+mod target;
 mod trees;
 mod trust;
 mod words;
 mod writer;
 
-use args::Order;
+use args::{Asked, Order};
 use failure::Failure;
 use input::Database;
 use out::Out;
 use std::ffi::OsStr;
+use std::fs;
 use std::process::ExitCode;
 
 fn main() -> ExitCode {
@@ -35,12 +38,32 @@ fn main() -> ExitCode {
     }
 }
 
-fn run(order: Order) -> Result<(), Failure> {
-    let mut out = Out::new();
-    let done = show(order, &mut out);
-    // What was shown before a refusal is written too.
-    out.flush()?;
-    done
+fn run(Asked { order, output }: Asked) -> Result<(), Failure> {
+    let output = output.as_deref();
+    if let (Some(file), Some(output)) = (order.file(), output) {
+        spare(file, output)?;
+    }
+    let done = Out::new(output).map_err(Failure::from).and_then(|mut out| {
+        let done = show(order, &mut out);
+        out.end(done)
+    });
+    match (done, output) {
+        (Err(Failure::Unwritten(error)), Some(file)) => {
+            Err(Failure::UnwrittenFile(file.to_string_lossy().into_owned(), error))
+        }
+        (done, _) => done,
+    }
+}
+
+/// What is read is not written over.
+fn spare(file: &OsStr, output: &OsStr) -> Result<(), Failure> {
+    match (fs::canonicalize(file), fs::canonicalize(output)) {
+        (Ok(read), Ok(written)) if read == written && read.is_file() => {
+            let name = output.to_string_lossy();
+            Err(Failure::Usage(format!("{name} is the file that is read: it is not written over")))
+        }
+        _ => Ok(()),
+    }
 }
 
 fn show(order: Order, out: &mut Out) -> Result<(), Failure> {

@@ -1,19 +1,39 @@
-//! Standard output through one large buffer.
+//! The output through one large buffer.
 //!
 //! Text is put into memory, where nothing fails; `pass` writes it once there is enough, and is called between lines.
 
-use std::io::{self, StdoutLock, Write};
+use crate::failure::Failure;
+use crate::target::Target;
+use std::ffi::OsStr;
+use std::io::{self, Write};
 
 const ENOUGH: usize = 256 * 1024;
 
 pub struct Out {
     buffer: Vec<u8>,
-    to: StdoutLock<'static>,
+    to: Target,
+    /// Whether any byte was written.
+    begun: bool,
 }
 
 impl Out {
-    pub fn new() -> Out {
-        Out { buffer: Vec::with_capacity(2 * ENOUGH), to: io::stdout().lock() }
+    /// To a file, or to standard output.
+    pub fn new(file: Option<&OsStr>) -> io::Result<Out> {
+        let to = file.map_or(Ok(Target::standard()), Target::file)?;
+        Ok(Out { buffer: Vec::with_capacity(2 * ENOUGH), to, begun: false })
+    }
+
+    /// What was shown before a refusal is written too. A file is not replaced where there is nothing to show, nor where
+    /// some of it could not be written.
+    pub fn end(mut self, done: Result<(), Failure>) -> Result<(), Failure> {
+        if matches!(done, Err(Failure::Unwritten(_))) {
+            return done;
+        }
+        self.flush()?;
+        if self.begun {
+            self.to.end()?;
+        }
+        done
     }
 
     pub fn text(&mut self, text: &[u8]) {
@@ -57,7 +77,8 @@ impl Out {
     }
 
     pub fn flush(&mut self) -> io::Result<()> {
-        let written = self.to.write_all(&self.buffer).and_then(|()| self.to.flush());
+        self.begun |= !self.buffer.is_empty();
+        let written = self.to.write(&self.buffer);
         // Also what could not be written is gone: it is not tried again.
         self.buffer.clear();
         written
