@@ -144,9 +144,34 @@ fn page_has_head_and_entries() {
     assert_eq!(lines[9], ["0", "503", "-", "7", "1", "3", "2"]);
     assert_eq!((lines.len(), status(&output)), (11, 0));
     assert!(out(&file.show(&["page", "0", "--reading", "old"])).starts_with("page 0, old reading\n"));
-    let absent = file.show(&["page", "2"]);
-    assert_eq!((out(&absent), status(&absent)), ("", 1));
-    assert_eq!(err(&absent), "shorgavel: refused 8 (PageAbsent) on page 2: the page is not wholly in the bytes\n");
+}
+
+/// Old counts whole pages from 0 on; the others take the header's word, where it was written with the last change.
+#[test]
+fn a_page_past_the_end_tells_which_there_are() {
+    let absent = |bytes: &[u8], words: &[&str], pages: &str| {
+        let output = fed(&[&["page", "-"], words].concat(), bytes);
+        let said =
+            format!("shorgavel: refused 8 (PageAbsent) on page {}: the page is not wholly in the bytes", words[0]);
+        assert_eq!((out(&output), status(&output)), ("", 1));
+        assert_eq!(err(&output), format!("{said}; {pages}\n"));
+    };
+    absent(&two_rows(), &["2"], "there is 1 page, 1");
+    absent(&two_rows(), &["1", "--reading", "old"], "there is 1 page, 0");
+    let mut bytes = long_notes();
+    for number in ["0", "9", "4294967295"] {
+        absent(&bytes, &[number], "there are 8 pages, 1 to 8");
+        absent(&bytes, &[number, "--reading=guarded"], "there are 8 pages, 1 to 8");
+    }
+    absent(&bytes, &["8", "--reading=old"], "there are 8 pages, 0 to 7");
+    put(&mut bytes, 28, &[0, 0, 4, 0]);
+    absent(&bytes, &["9"], "8 of its 1,024 pages are there, 1 to 8");
+    absent(&bytes[..512], &["2"], "1 of its 1,024 pages is there, 1");
+    absent(&bytes[..511], &["1"], "no page is wholly there");
+    absent(&bytes[..511], &["0", "--reading=old"], "no page is wholly there");
+    // Another refusal of a page has nothing to do with how many there are.
+    let index = fed(&["page", "-", "2", "--reading=guarded"], &[&two_rows()[..], &[0; 512]].concat());
+    assert!(status(&index) == 1 && !err(&index).contains("there "));
 }
 
 #[test]

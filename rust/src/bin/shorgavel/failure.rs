@@ -8,6 +8,8 @@ use std::process::ExitCode;
 pub enum Failure {
     /// The database, a page or a table is refused.
     Refused(Refusal),
+    /// There is no such page; the words say which there are.
+    Absent(Refusal, String),
     /// The readings part, or something else wrote a row: what was to be found out, and told by the status.
     Found,
     /// A table was left out, as the output tells.
@@ -36,6 +38,7 @@ impl Failure {
     pub fn say(&self) {
         match self {
             Failure::Refused(refusal) => eprintln!("shorgavel: {refusal}"),
+            Failure::Absent(refusal, pages) => eprintln!("shorgavel: {refusal}; {pages}"),
             Failure::Found => {}
             Failure::Partial(Work::Compare) => eprintln!("shorgavel: not all tables are compared"),
             Failure::Partial(Work::Ask) => eprintln!("shorgavel: not all tables are asked"),
@@ -54,7 +57,7 @@ impl Failure {
 
     fn status(&self) -> u8 {
         match self {
-            Failure::Refused(_) | Failure::Found | Failure::Partial(_) => 1,
+            Failure::Refused(_) | Failure::Absent(..) | Failure::Found | Failure::Partial(_) => 1,
             Failure::Usage(_) => 2,
             Failure::Unwritten(_) if self.is_broken_pipe() => 0,
             Failure::Unread(..) | Failure::Unwritten(_) | Failure::UnwrittenFile(..) => 3,
