@@ -122,6 +122,25 @@ of no table: page 5 cell 0 column 0: type 9: old shows 0, the gauge wrote 1
     assert_eq!((err(&output), status(&output)), ("", 0));
 }
 
+/// Rows that old and file refuse stand below all others, and change no status.
+#[test]
+fn compare_lists_what_both_refuse_apart() {
+    let mut bytes = two_leaves();
+    leaf(&mut bytes, 4, &[(1, vec![2, 10]), row(2, 11)]);
+    leaf(&mut bytes, 5, &[(1, vec![2, 11])]);
+    let output = fed(&["compare", "-"], &bytes);
+    let expected = "\
+table keyed is not compared: it has no row numbers: its rows are in an index, and are not listed
+table far is not compared: it is virtual: it has no pages of its own
+refused by old and file alike, and no part of the verdict:
+page 4 cell 0: 15 TypeReserved in column 0: the type is 10 or 11, which are reserved
+of no table: page 5 cell 0: 15 TypeReserved in column 0: the type is 10 or 11, which are reserved
+1 cells of no table, deleted or damaged, do not count: 0 part, 1 are refused by old and file alike
+7 cells compared: 0 part, 1 are refused by old and file alike
+";
+    assert_eq!((out(&output), err(&output), status(&output)), (expected, "", 0));
+}
+
 /// A table that is refused is not compared, and then nothing is content.
 #[test]
 fn compare_is_not_content_where_a_table_is_refused() {

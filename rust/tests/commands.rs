@@ -184,7 +184,14 @@ page 1 cell 10: a header size that is not in one byte: old shows row 11: 8, 1100
 page 1 cell 11: file refuses it (14 HeaderUnfit: the record's header does not fit), old shows row 12: 5
 ";
     assert!(out(&output).starts_with(expected));
-    assert!(out(&output).ends_with("\n12 cells compared: 4 part, 2 are refused by old and file alike\n"));
+    let refused = "
+refused by old and file alike, and no part of the verdict:
+page 1 cell 1: 14 HeaderUnfit: the record's header does not fit
+page 1 cell 7: 15 TypeReserved in column 0: the type is 10 or 11, which are reserved
+2 cells of no table, deleted or damaged, do not count: 1 part, 0 are refused by old and file alike
+12 cells compared: 4 part, 2 are refused by old and file alike
+";
+    assert!(out(&output).ends_with(refused));
     assert_eq!((err(&output), status(&output)), ("", 1));
     let largest = run(&[OsStr::new("compare"), kept("rows_largest", "stdin").as_os_str()]);
     let first = "page 1 cell 0: a varint of over five bytes: old refuses it (13 CellCut: the cell is cut short), \
@@ -251,7 +258,11 @@ fn compare_tells_what_is_refused_of_long_notes() {
     // A type 9 in place of row 4's null: a lower mark, but the text differs for its length.
     bytes[512 + 20 + 3 + 4] = 9;
     let output = fed(&["compare", "-"], &bytes);
-    assert!(!out(&output).contains("page 2 cell 1"));
+    let both = "old: 16 ValueUnfit in column 1: the value passes the end, or bytes are left over behind the last; \
+                file: 23 ChainUnfit: the overflow chain leaves the file, ends early or goes on";
+    let heading = "refused by old and file alike, and no part of the verdict:";
+    assert!(out(&output).contains(&format!("\n{heading}\npage 2 cell 1: {both}\n5 cells compared: ")));
+    assert_eq!(out(&output).matches("page 2 cell 1").count(), 1);
     assert!(out(&output).contains("\npage 2 cell 3 column 1: a long note, whose payload spills: old shows "));
     assert!(out(&output).contains("\npage 2 cell 3 column 2: type 9: old shows 0, the gauge wrote 1\n"));
     assert!(out(&output).ends_with("\n5 cells compared: 2 part, 1 are refused by old and file alike\n"));

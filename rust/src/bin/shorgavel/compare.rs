@@ -1,32 +1,39 @@
-//! `compare`: only the rows of tables in which the readings part, with the reason in words.
+//! `compare`: only the rows of tables in which the readings part, with the reason in words; and below them those that both
+//! refuse, which part in nothing.
 
 use crate::failure::Failure;
 use crate::input::Database;
-use crate::leaf::{Count, Leaf, Lent};
+use crate::leaf::{Count, Leaf, Lent, Trio};
 use crate::out::Out;
 use crate::progress::Progress;
 use crate::reason;
 use crate::trees::{Trees, Work};
 use crate::words;
-use shorgavel::{Gauge, Reading, TextEncoding};
+use shorgavel::{Gauge, Reading};
 use std::io::{self, Write};
+
+/// What a line on a page of no table starts with.
+const LOOSE: &str = "of no table: ";
 
 pub fn show(database: &Database, out: &mut Out) -> Result<(), Failure> {
     let gauge = database.gauge()?;
     let trees = Trees::of(&gauge)?;
     let encoding = gauge.header(Reading::File)?.db_text_encoding;
-    let progress = Progress::new(trees.leaves().count() + trees.loose.len());
-    let mut sides = Sides { gauge, encoding, lent: Lent::default(), progress, done: 0 };
+    let mut sides = Sides { gauge, lent: Lent::default() };
+    let mut progress = Progress::new(trees.leaves().count() + trees.loose.len());
+    let parting = |trio: &Trio<'_>| reason::lines(trio, encoding);
 
-    let count = sides.compare(trees.leaves(), "", out)?;
+    let tables = sides.pages(trees.leaves(), "", &mut progress, parting, out)?;
     apart(&trees, out)?;
-    let loose = sides.compare(trees.loose.iter().copied(), "of no table: ", out)?;
-    if loose.cells > 0 {
-        let Count { cells, parted, refused } = loose;
+    let loose = sides.pages(trees.loose.iter().copied(), LOOSE, &mut progress, parting, out)?;
+    drop(progress);
+    sides.refused(&tables, &loose, out)?;
+    if loose.count.cells > 0 {
+        let Count { cells, parted, refused } = loose.count;
         write!(out, "{cells} cells of no table, deleted or damaged, do not count: ")?;
         writeln!(out, "{parted} part, {refused} are refused by old and file alike")?;
     }
-    let Count { cells, parted, refused } = count;
+    let Count { cells, parted, refused } = tables.count;
     writeln!(out, "{cells} cells compared: {parted} part, {refused} are refused by old and file alike")?;
     trees.verdict(Work::Compare, parted, cells)
 }
@@ -34,30 +41,58 @@ pub fn show(database: &Database, out: &mut Out) -> Result<(), Failure> {
 /// What pages are compared with.
 struct Sides<'a> {
     gauge: Gauge<'a>,
-    encoding: TextEncoding,
     lent: Lent,
-    progress: Progress,
-    done: usize,
+}
+
+/// What some pages hold, and on which of them are rows that old and file refuse.
+#[derive(Default)]
+struct Compared {
+    count: Count,
+    refusing: Vec<u32>,
 }
 
 impl Sides<'_> {
-    /// The rows of some pages: each line on one of them starts with the words given.
-    fn compare(&mut self, pages: impl Iterator<Item = u32>, before: &str, out: &mut Out) -> Result<Count, Failure> {
-        let mut count = Count::default();
+    /// The lines on the doubtful rows of some pages: each starts with the words given.
+    fn pages(
+        &mut self,
+        pages: impl Iterator<Item = u32>,
+        before: &str,
+        progress: &mut Progress,
+        lines: impl Fn(&Trio<'_>) -> Vec<String>,
+        out: &mut Out,
+    ) -> Result<Compared, Failure> {
+        let Compared { mut count, mut refusing } = Compared::default();
         for page in pages {
-            self.done += 1;
-            self.progress.reach(self.done);
-            let leaf = Leaf::open(&self.gauge, page)?;
+            progress.step();
+            let (leaf, known) = (Leaf::open(&self.gauge, page)?, count.refused);
             count.leaf(&leaf, &mut self.lent, |trio| {
-                for line in reason::lines(trio, self.encoding) {
+                for line in lines(trio) {
                     out.text(before.as_bytes());
                     out.text(line.as_bytes());
                     out.text(b"\n");
                 }
             });
+            if count.refused > known {
+                refusing.push(page);
+            }
             out.pass()?;
         }
-        Ok(count)
+        Ok(Compared { count, refusing })
+    }
+
+    /// The rows that old and file refuse. Their pages are gone through again, so that of a page nothing is kept but its
+    /// number.
+    fn refused(&mut self, tables: &Compared, loose: &Compared, out: &mut Out) -> Result<(), Failure> {
+        let (own, others) = (&tables.refusing, &loose.refusing);
+        if own.is_empty() && others.is_empty() {
+            return Ok(());
+        }
+        let mut progress = Progress::new(own.len() + others.len());
+        let refused = |trio: &Trio<'_>| reason::refused(trio).into_iter().collect();
+        writeln!(out, "refused by old and file alike, and no part of the verdict:")?;
+        self.pages(own.iter().copied(), "", &mut progress, refused, out)?;
+        self.pages(others.iter().copied(), LOOSE, &mut progress, refused, out)?;
+        Ok(())
     }
 }
 

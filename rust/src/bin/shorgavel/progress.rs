@@ -34,6 +34,11 @@ impl Progress {
         }
     }
 
+    /// One more of it is done.
+    pub fn step(&mut self) {
+        self.reach(self.done + 1);
+    }
+
     fn show(&mut self) {
         let now = Instant::now();
         if self.due.is_some_and(|due| due <= now) {

@@ -27,6 +27,18 @@ pub fn lines(trio: &Trio<'_>, encoding: TextEncoding) -> Vec<String> {
     }
 }
 
+/// The line on a cell that old and file refuse; none on another. One reason is told once.
+pub fn refused(trio: &Trio<'_>) -> Option<String> {
+    let (Err(old), Err(file)) = (&trio.old, &trio.file) else {
+        return None;
+    };
+    let (mut by_old, mut by_file) = (String::new(), String::new());
+    words::refusal(&mut by_old, *old);
+    words::refusal(&mut by_file, *file);
+    let why = if by_old == by_file { by_old } else { format!("old: {by_old}; file: {by_file}") };
+    Some(format!("page {} cell {}: {why}", trio.page, trio.cell))
+}
+
 /// The mark says more than that there is one.
 fn meaning(refusal: Refusal) -> &'static str {
     refusal.mark().map_or(refusal.meaning(), Mark::meaning)
