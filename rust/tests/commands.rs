@@ -347,6 +347,7 @@ fn help_and_version_are_told() {
             "--table",
             "--notes",
             "--parting",
+            "--csv",
         ] {
             assert!(out(&output).contains(&format!("\n  {command} ")), "{command}");
         }
@@ -370,7 +371,7 @@ fn wrong_words_end_with_2() {
         (&["rows", "-", "--reading", "new"], "--reading takes old, file or guarded"),
         (&["sheet", "-", "--reading", "old"], "sheet takes no --reading"),
         (&["trust"], "trust: FILE is missing"),
-        (&["trust", "-", "-"], "trust: - is one word too many"),
+        (&["writer", "-", "-"], "writer: - is one word too many"),
         (&["trust", "-", "--notes"], "trust takes no --notes"),
         (&["writer"], "writer: FILE is missing"),
         (&["writer", "-", "--parting"], "writer takes no --parting"),

@@ -3,13 +3,12 @@
 mod common;
 
 use common::command::{command, err, fed, out, run, status, Kept};
+use common::folder::Folder;
 use common::two_rows;
 use std::ffi::OsString;
 use std::fs::{self, File};
 use std::os::unix::ffi::OsStringExt;
 use std::os::unix::fs::{symlink, PermissionsExt};
-use std::path::{Path, PathBuf};
-use std::process::Output;
 
 #[test]
 fn a_value_stands_behind_its_option_or_is_the_next_word() {
@@ -62,41 +61,16 @@ fn help_is_a_command_too() {
     assert!(help.lines().all(|line| line.chars().count() <= 120));
 }
 
-/// A folder of its own, which is gone once the test is over.
-struct Folder(PathBuf);
-
-impl Folder {
-    fn new(name: &str) -> Folder {
-        let path = Path::new(env!("CARGO_TARGET_TMPDIR")).join(name);
-        let _ = fs::remove_dir_all(&path);
-        fs::create_dir(&path).unwrap();
-        fs::write(path.join("gauge.db"), two_rows()).unwrap();
-        Folder(path)
-    }
-
-    fn run(&self, words: &[&str]) -> Output {
-        command().args(words).current_dir(&self.0).output().unwrap()
-    }
-
-    fn text(&self, name: &str) -> String {
-        fs::read_to_string(self.0.join(name)).unwrap()
-    }
-
-    /// No other file is left behind.
-    fn files(&self) -> usize {
-        fs::read_dir(&self.0).unwrap().count()
-    }
-}
-
-impl Drop for Folder {
-    fn drop(&mut self) {
-        fs::remove_dir_all(&self.0).unwrap();
-    }
+/// A folder with a database.
+fn with_gauge(name: &str) -> Folder {
+    let folder = Folder::new(name);
+    folder.put("gauge.db", &two_rows());
+    folder
 }
 
 #[test]
 fn the_output_goes_to_a_file() {
-    let folder = Folder::new("output");
+    let folder = with_gauge("output");
     for command in ["rows", "compare", "sheet", "trust"] {
         let shown = folder.run(&[command, "gauge.db"]);
         for words in [["-o", "out.txt"], ["--output", "./out.txt"]] {
@@ -115,7 +89,7 @@ fn the_output_goes_to_a_file() {
 /// A link and the permissions stay as they were.
 #[test]
 fn a_file_is_replaced_in_its_place() {
-    let folder = Folder::new("replaced");
+    let folder = with_gauge("replaced");
     let path = folder.0.join("out.txt");
     fs::write(&path, "before").unwrap();
     fs::set_permissions(&path, fs::Permissions::from_mode(0o640)).unwrap();
@@ -130,7 +104,7 @@ fn a_file_is_replaced_in_its_place() {
 /// What is refused has lines in `rows`, and none in `trust`.
 #[test]
 fn a_file_is_left_as_it_was_where_there_is_nothing_to_show() {
-    let folder = Folder::new("nothing");
+    let folder = with_gauge("nothing");
     fs::write(folder.0.join("out.txt"), "before").unwrap();
     fs::write(folder.0.join("none.db"), "").unwrap();
     for (words, ended) in [(["trust", "none.db"], 1), (["rows", "no such file"], 3)] {
@@ -143,7 +117,7 @@ fn a_file_is_left_as_it_was_where_there_is_nothing_to_show() {
 
 #[test]
 fn a_file_that_cannot_be_written_is_named() {
-    let folder = Folder::new("unwritten");
+    let folder = with_gauge("unwritten");
     fs::create_dir(folder.0.join("sub")).unwrap();
     for (name, why) in [("sub", "it is a folder\n"), ("none/out.txt", "No such file"), ("/dev/full", "No space left")] {
         let output = folder.run(&["rows", "gauge.db", "-o", name]);
@@ -158,11 +132,11 @@ fn a_file_that_cannot_be_written_is_named() {
 
 #[test]
 fn the_database_is_not_written_over() {
-    let folder = Folder::new("spared");
+    let folder = with_gauge("spared");
     symlink("gauge.db", folder.0.join("link")).unwrap();
     for name in ["gauge.db", "./gauge.db", "link"] {
         let output = folder.run(&["sheet", "gauge.db", "-o", name]);
-        let said = format!("shorgavel: {name} is the file that is read: it is not written over; ");
+        let said = format!("shorgavel: {name} is a file that is read: it is not written over; ");
         assert!(err(&output).starts_with(&said), "{}", err(&output));
         assert_eq!((status(&output), fs::read(folder.0.join("gauge.db")).unwrap()), (2, two_rows()));
     }

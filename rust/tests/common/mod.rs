@@ -4,6 +4,7 @@
 #![allow(dead_code)]
 
 pub mod command;
+pub mod folder;
 pub mod trees;
 
 pub fn put(bytes: &mut [u8], at: usize, part: &[u8]) {

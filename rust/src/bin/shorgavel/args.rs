@@ -3,8 +3,11 @@
 use crate::failure::Failure;
 use crate::lines::Lines;
 use crate::options::{self, Words};
+use crate::trust::Form;
 use shorgavel::{Notes, Reading};
 use std::ffi::{OsStr, OsString};
+use std::path::Path;
+use std::slice;
 
 /// What is asked for, and the file that it is written to in place of standard output.
 pub struct Asked {
@@ -15,6 +18,7 @@ pub struct Asked {
 pub enum Order {
     Say(String),
     Trust(OsString),
+    TrustMany(Vec<OsString>, Form),
     Writer(OsString),
     Header(OsString),
     Page(OsString, u32, Reading),
@@ -34,12 +38,17 @@ pub enum Rows {
 const COMMANDS: [&str; 9] = ["trust", "writer", "header", "page", "tables", "rows", "compare", "sheet", "help"];
 
 impl Order {
-    /// The file that is read.
-    pub fn file(&self) -> Option<&OsStr> {
+    /// The files and folders that are read.
+    pub fn files(&self) -> &[OsString] {
         match self {
-            Order::Say(_) => None,
-            Order::Trust(file) | Order::Writer(file) | Order::Header(file) | Order::Page(file, ..) => Some(file),
-            Order::Tables(file) | Order::Rows(file, _) | Order::Compare(file) | Order::Sheet(file, _) => Some(file),
+            Order::Say(_) => &[],
+            Order::TrustMany(files, _) => files,
+            Order::Trust(file) | Order::Writer(file) | Order::Header(file) | Order::Page(file, ..) => {
+                slice::from_ref(file)
+            }
+            Order::Tables(file) | Order::Rows(file, _) | Order::Compare(file) | Order::Sheet(file, _) => {
+                slice::from_ref(file)
+            }
         }
     }
 }
@@ -63,7 +72,7 @@ fn order(name: &str, words: &mut Words) -> Result<Order, Failure> {
     let mut plain = std::mem::take(&mut words.plain).into_iter();
     let mut next = |what: &str| plain.next().ok_or_else(|| wrong(format!("{name}: {what} is missing")));
     let order = match name {
-        "trust" => Order::Trust(next("FILE")?),
+        "trust" => trust(next("FILE")?, plain.by_ref(), words.csv),
         "writer" => Order::Writer(next("FILE")?),
         "header" => Order::Header(next("FILE")?),
         "page" => Order::Page(next("FILE")?, number(&next("N")?)?, words.reading.unwrap_or(Reading::File)),
@@ -82,6 +91,15 @@ fn order(name: &str, words: &mut Words) -> Result<Order, Failure> {
     Ok(order)
 }
 
+/// One file has a page to be printed; a folder is several files, whatever is in it.
+fn trust(first: OsString, more: impl Iterator<Item = OsString>, csv: bool) -> Order {
+    let files: Vec<_> = [first].into_iter().chain(more).collect();
+    match &files[..] {
+        [file] if !csv && (file == "-" || !Path::new(file).is_dir()) => Order::Trust(file.clone()),
+        _ => Order::TrustMany(files, if csv { Form::Csv } else { Form::Words }),
+    }
+}
+
 /// The first word or option for which the command has no use.
 fn unfit(name: &str, order: &Order, words: &Words) -> Option<Failure> {
     let rows = matches!(order, Order::Rows(..));
@@ -89,6 +107,7 @@ fn unfit(name: &str, order: &Order, words: &Words) -> Option<Failure> {
         ("--reading", words.reading.is_some(), rows || matches!(order, Order::Page(..))),
         ("--table", words.table.is_some(), rows),
         ("--notes", words.notes, rows),
+        ("--csv", words.csv, matches!(order, Order::TrustMany(..))),
         ("--parting", words.parting, matches!(order, Order::Sheet(..))),
     ];
     let more = words.plain.first().map(|more| format!("{name}: {} is one word too many", more.to_string_lossy()));

@@ -26,6 +26,10 @@ pub enum Failure {
     Cut(PageCount),
     /// There was no row.
     Nothing(Work),
+    /// A folder has no database.
+    Bare(String),
+    /// Of several files the worst has this status, as the output tells.
+    Listed(u8),
 }
 
 impl Failure {
@@ -39,7 +43,7 @@ impl Failure {
         match self {
             Failure::Refused(refusal) => eprintln!("shorgavel: {refusal}"),
             Failure::Absent(refusal, pages) => eprintln!("shorgavel: {refusal}; {pages}"),
-            Failure::Found => {}
+            Failure::Found | Failure::Listed(_) => {}
             Failure::Partial(Work::Compare) => eprintln!("shorgavel: not all tables are compared"),
             Failure::Partial(Work::Ask) => eprintln!("shorgavel: not all tables are asked"),
             Failure::Usage(why) => eprintln!("shorgavel: {why}; `shorgavel --help` has the words"),
@@ -52,17 +56,19 @@ impl Failure {
             }
             Failure::Nothing(Work::Compare) => eprintln!("shorgavel: there is no row to compare"),
             Failure::Nothing(Work::Ask) => eprintln!("shorgavel: there is no row that could be asked"),
+            Failure::Bare(folder) => eprintln!("shorgavel: {folder} is a folder with no database in it"),
         }
     }
 
-    fn status(&self) -> u8 {
+    pub fn status(&self) -> u8 {
         match self {
             Failure::Refused(_) | Failure::Absent(..) | Failure::Found | Failure::Partial(_) => 1,
             Failure::Usage(_) => 2,
             Failure::Unwritten(_) if self.is_broken_pipe() => 0,
             Failure::Unread(..) | Failure::Unwritten(_) | Failure::UnwrittenFile(..) => 3,
             Failure::Cut(_) => 4,
-            Failure::Nothing(_) => 5,
+            Failure::Nothing(_) | Failure::Bare(_) => 5,
+            Failure::Listed(status) => *status,
         }
     }
 

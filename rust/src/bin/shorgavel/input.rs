@@ -7,6 +7,9 @@ use std::fs::{self, File};
 use std::io::{self, Read};
 use std::path::{Path, PathBuf};
 
+/// SQLite's sixteen bytes.
+const OPENING: &[u8; 16] = b"SQLite format 3\0";
+
 pub struct Database {
     pub name: String,
     /// The name of the log beside it, where there is one with writes in it.
@@ -16,19 +19,24 @@ pub struct Database {
 }
 
 impl Database {
-    /// Reads a file whole; one that is over the limit by its length is not read. A log beside it is told and not read.
+    /// The same as `open`; a log beside it is told.
     pub fn read(file: &OsStr) -> Result<Database, Failure> {
+        let database = Database::open(file)?;
+        if let Some(log) = &database.log {
+            eprintln!("shorgavel: the last writes are in {log}, beside the file: they are not read");
+        }
+        Ok(database)
+    }
+
+    /// Reads a file whole; one that is over the limit by its length is not read, nor is a log beside it.
+    pub fn open(file: &OsStr) -> Result<Database, Failure> {
         let name = match file.to_str() {
             Some("-") => "standard input".to_string(),
             _ => Path::new(file).file_name().unwrap_or(file).to_string_lossy().into_owned(),
         };
         let (bytes, length) =
             load(file).map_err(|error| Failure::Unread(file.to_string_lossy().into_owned(), error))?;
-        let log = log_of(file);
-        if let Some(log) = &log {
-            eprintln!("shorgavel: the last writes are in {log}, beside the file: they are not read");
-        }
-        Ok(Database { name, log, bytes, length })
+        Ok(Database { name, log: log_of(file), bytes, length })
     }
 
     /// The bytes, if they are not too many.
@@ -42,6 +50,13 @@ impl Database {
         let pages = self.gauge().and_then(|gauge| gauge.page_count(Reading::File)).ok()?;
         (pages.present < pages.count).then_some(pages)
     }
+}
+
+/// Whether a file begins as a database does.
+pub fn is_database(file: &Path) -> io::Result<bool> {
+    let mut opening = Vec::new();
+    File::open(file)?.take(OPENING.len() as u64).read_to_end(&mut opening)?;
+    Ok(opening == OPENING)
 }
 
 /// SQLite looks for it beside the file itself, wherever a link to it stands.

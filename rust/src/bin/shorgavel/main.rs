@@ -40,8 +40,8 @@ fn main() -> ExitCode {
 
 fn run(Asked { order, output }: Asked) -> Result<(), Failure> {
     let output = output.as_deref();
-    if let (Some(file), Some(output)) = (order.file(), output) {
-        spare(file, output)?;
+    if let Some(output) = output {
+        order.files().iter().try_for_each(|file| spare(file, output))?;
     }
     let done = Out::new(output).map_err(Failure::from).and_then(|mut out| {
         let done = show(order, &mut out);
@@ -55,15 +55,17 @@ fn run(Asked { order, output }: Asked) -> Result<(), Failure> {
     }
 }
 
-/// What is read is not written over.
+/// What is read is not written over, nor is a database of a folder that is.
 fn spare(file: &OsStr, output: &OsStr) -> Result<(), Failure> {
-    match (fs::canonicalize(file), fs::canonicalize(output)) {
-        (Ok(read), Ok(written)) if read == written && read.is_file() => {
-            let name = output.to_string_lossy();
-            Err(Failure::Usage(format!("{name} is the file that is read: it is not written over")))
-        }
-        _ => Ok(()),
+    let (Ok(read), Ok(written)) = (fs::canonicalize(file), fs::canonicalize(output)) else {
+        return Ok(());
+    };
+    let in_folder = || written.parent() == Some(&read) && input::is_database(&written).unwrap_or(false);
+    if written.is_file() && (read == written || in_folder()) {
+        let name = output.to_string_lossy();
+        return Err(Failure::Usage(format!("{name} is a file that is read: it is not written over")));
     }
+    Ok(())
 }
 
 fn show(order: Order, out: &mut Out) -> Result<(), Failure> {
@@ -73,6 +75,7 @@ fn show(order: Order, out: &mut Out) -> Result<(), Failure> {
             Ok(())
         }
         Order::Trust(file) => whole(&file, |database| trust::show(database, out)),
+        Order::TrustMany(files, form) => trust::show_many(&files, form, out),
         Order::Writer(file) => whole(&file, |database| writer::show(database, out)),
         Order::Header(file) => header::show(&Database::read(&file)?, out),
         Order::Page(file, number, reading) => page::show(&Database::read(&file)?, number, reading, out),

@@ -17,6 +17,7 @@ pub struct Words {
     pub output: Option<OsString>,
     pub notes: bool,
     pub parting: bool,
+    pub csv: bool,
 }
 
 impl Words {
@@ -52,13 +53,14 @@ impl Words {
             "--reading" => self.reading = Some(reading(value())?),
             "--table" => self.table = Some(root(value())?),
             "-o" | "--output" => self.output = Some(file(value())?),
-            "-h" | "--help" | "-V" | "--version" | "--notes" | "--parting" if !alone => {
+            "-h" | "--help" | "-V" | "--version" | "--notes" | "--parting" | "--csv" if !alone => {
                 return Err(Failure::Usage(format!("{name} takes no value")));
             }
             "-h" | "--help" => self.said = Some(help()),
             "-V" | "--version" => self.said = Some(format!("shorgavel {}\n", env!("CARGO_PKG_VERSION"))),
             "--notes" => self.notes = true,
             "--parting" => self.parting = true,
+            "--csv" => self.csv = true,
             _ => return Err(Failure::Usage(format!("there is no option {name}"))),
         }
         Ok(())

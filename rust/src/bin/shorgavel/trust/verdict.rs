@@ -32,6 +32,16 @@ impl Verdict {
         }
     }
 
+    /// How many tables were compared or are damaged.
+    pub fn tables(&self) -> usize {
+        self.agreeing + self.parting + self.damaged
+    }
+
+    /// A table of another name would be named by a row of this one.
+    pub fn is_schema_alone(&self) -> bool {
+        self.rows > 0 && self.agreeing == 1 && self.tables() == 1
+    }
+
     pub fn put(&self, database: &Database, trees: &Trees, out: &mut Out) {
         if self.parting + self.damaged > 0 {
             let more = if self.parting > 0 { " `shorgavel compare` has every row that parts." } else { "" };
@@ -52,7 +62,7 @@ impl Verdict {
 
     /// Rows that are not known of are not said to agree.
     fn words(&self, whole: bool) -> String {
-        let tables = self.agreeing + self.parting + self.damaged;
+        let tables = self.tables();
         let rows = counted(self.rows, "row");
         if self.rows == 0 {
             "Nothing was compared.".to_string()
@@ -60,8 +70,7 @@ impl Verdict {
             self.shares(tables)
         } else if !whole {
             format!("Every row that was compared agrees, {rows}, but that is not all of the file.")
-        } else if tables == 1 {
-            // A table of another name would be named by a row of this one.
+        } else if self.is_schema_alone() {
             format!("Nothing was compared but sqlite_schema, the list of the tables, which agrees: {rows}.")
         } else {
             format!("Every row of all {tables} tables agrees, {rows}: the printed sheets and the gauge say the same.")
