@@ -2,6 +2,7 @@
 
 use super::files::Files;
 use super::line::Line;
+use super::room::Room;
 use super::{csv, workers};
 use crate::failure::Failure;
 use crate::out::Out;
@@ -37,7 +38,9 @@ pub fn show(names: &[OsString], form: Form, out: &mut Out) -> Result<(), Failure
     if form == Form::Csv {
         csv::heading(out);
     }
-    workers::in_order(&files.names, Line::of, |line| {
+    let room = Room::default();
+    let judge = |file: &OsString| room.with(file, || Line::of(file));
+    workers::in_order(&files.names, judge, |line| {
         progress.step();
         let verdict = line.verdict();
         counts.iter_mut().zip(SHARES).for_each(|(count, (name, ..))| *count += usize::from(name == verdict));

@@ -6,6 +6,7 @@ mod files;
 mod line;
 mod many;
 mod parting;
+mod room;
 mod verdict;
 mod workers;
 
