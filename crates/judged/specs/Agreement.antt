@@ -51,7 +51,7 @@ abbrev pub EveryOpenRefuses : Type 0
 EveryOpenRefuses = (o : Open) (i room : ℕ) (db : List ℕ) → o .kind ≡ LeafTable
     → Judged (o .page) i (lentIn o i room db) (marked.lentIn o i room db)
 
--- what guarded shows it shows with no buffer too, where old agrees (`GuardedAgrees` of `guarded`), and so does file
+-- what guarded shows it shows with no buffer too, where old agrees (`GuardedAgrees` of `agreement`), and so does file
 abbrev pub GuardedAgrees : Type 0
 GuardedAgrees = (number i room : ℕ) (db : List ℕ) (l : Located) → marked.lentOf number i room db ≡ shown l
     → (guarded.locatedOf number i db ≡ shown l) × (lentOf (filePage number) i room db ≡ shown (whole l))
