@@ -1,5 +1,5 @@
 -- The guarded reading: a cell of a table leaf as the file reading has it, where its record has no mark. The old reading is
--- never run for it; that the two agree is the theorem of Agreement.antt.
+-- never run for it; that the two agree is the theorem of `agreement`.
 use Prim.Native.Nat.{ℕ}
 use mathlib.Core.List.{List}
 use mathlib.Core.Bool.{Bool, true, false}

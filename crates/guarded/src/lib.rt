@@ -1,8 +1,8 @@
 // The guarded reading: a row only where the old reading and the file reading agree.
 //
 // A cell of a table leaf is read as the file reading has it and refused where its record has a mark; the old reading is
-// never run. That it agrees wherever a cell is shown is a theorem: specs/Agreement.antt. Pages count from 1. A cursor goes
-// on with `row_values::file::next`.
+// never run. That it agrees wherever a cell is shown is a theorem of `agreement`. Pages count from 1. A cursor goes on with
+// `row_values::file::next`.
 ghost use mathlib.Core.Path.{_≡_};
 ghost use Prim.Native.Nat.{_≤_};
 ghost use lib.ListN.{length};

@@ -1,7 +1,7 @@
 -- Which page is asked for, and where it lies in the bytes.
 --
 -- The Rust counts pages from 0, the file format (1.2 "Pages") from 1. A page is there if it lies wholly in the bytes and, in the
--- file reading, is one of those that the file has (specs/Shape.antt).
+-- file reading, is one of those that the file has (`shape`).
 use Prim.Native.Nat.{ℕ, _+_, _-_, _*_}
 use mathlib.Core.List.{List}
 use mathlib.Core.Bool.{Bool}

@@ -1,4 +1,4 @@
--- `lent::lend` meets its contract: a walk of its MIR, by hand. The array is a local's own; in memory it is a row of eight
+-- `lend` meets its contract: a walk of its MIR, by hand. The array is a local's own; in memory it is a row of eight
 -- entries, which is lent for a lifetime that is made for the call and ended behind it. Then the row is the local's again,
 -- at the list that the page call left, and is copied out whole. Of the page call it is known that it meets its contract.
 use mathlib.Core.Path.{_≡_, refl, sym, _∙_, ap, subst}

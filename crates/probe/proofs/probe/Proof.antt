@@ -1,4 +1,4 @@
--- `lent::probe` meets its contract: the borrow checker covers it, since the table is handed to `lend` and comes back by
+-- `probe` meets its contract: the borrow checker covers it, since the table is handed to `lend` and comes back by
 -- value. The table that comes back has eight places, as the one that was lent; so a place below eight is in it, whatever
 -- stands for a place that is not, and at eight and above there is none.
 use mathlib.Core.Path.{_≡_, refl, sym, _∙_, ap, subst}
