@@ -151,7 +151,7 @@ module _ (page : Page) (i : ℕ) (db : List ℕ) where
 -- what the code makes of the cell at a pointer
 abbrev pub locatedBy : Open → ℕ → ℕ → CellAnswer → LocatedAnswer
 locatedBy o i p (ca.Faulty fault) = la.Refused (InCell (o .page .number) i fault)
-locatedBy o i p (ca.Shown c) = la.Shown (record { opened = o; pointer = p; cell = c })
+locatedBy o i p (ca.Shown c) = la.Shown (record { pointer = p; cell = c })
 
 pub located-by : (o : Open) (i p : ℕ) (x : Answer Fault Cell)
     → locatedAnswer (inCell (o .page) i x >>= (λ c. shown (record { opened = o; pointer = p; cell = c }))) ≡ locatedBy o i p (answerOf (o .page .reading) x)
@@ -160,7 +160,7 @@ located-by o i p (shown c) = refl
 
 -- a located cell as the code has it
 abbrev pub toldOf : Located → dl.Located
-toldOf l = record { opened = l .opened; pointer = l .pointer; cell = told (l .opened .page .reading) (l .cell) }
+toldOf l = record { pointer = l .pointer; cell = told (l .opened .page .reading) (l .cell) }
 
 pub record Kept (x : Answer Refusal Located) (c : dl.Located) : Type 0 where
   pub l : Located

@@ -62,8 +62,7 @@ partIn o i db =
     pick (liesIn (length db) o)
     (pick (ltb i (o .cells)) (partAt o (pointerAt o i (pageAt (o .at) (o .size) db)) (pageAt (o .at) (o .size) db)) []) []
 
--- as the code has it
+-- as the code has it: a cell with its pointer, for a caller who has the page
 abbrev pub locatedAnswer : Answer Refusal Located → LocatedAnswer
 locatedAnswer (refused refusal) = la.Refused refusal
-locatedAnswer (shown l) =
-    la.Shown (record { opened = l .opened; pointer = l .pointer; cell = told (l .opened .page .reading) (l .cell) })
+locatedAnswer (shown l) = la.Shown (record { pointer = l .pointer; cell = told (l .opened .page .reading) (l .cell) })

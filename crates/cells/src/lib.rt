@@ -25,9 +25,8 @@ use page::OpenAnswer;
 use place::Page;
 use reading::Reading;
 
-// A cell with its page and its pointer.
+// A cell with its pointer. Its page is with the caller, who handed it in.
 pub struct Located {
-    pub opened: Open,
     pub pointer: u32,
     pub cell: Cell,
 }
@@ -125,11 +124,7 @@ fn located_in(page: &[u8], opened: Open, i: usize) -> LocatedAnswer
     let shown = cell_by(page, opened, pointer);
     match shown {
         CellAnswer::Faulty(fault) => LocatedAnswer::Refused(in_cell(named, i, fault)),
-        CellAnswer::Shown(cell) => LocatedAnswer::Shown(Located {
-            opened,
-            pointer,
-            cell,
-        }),
+        CellAnswer::Shown(cell) => LocatedAnswer::Shown(Located { pointer, cell }),
     }
 }
 

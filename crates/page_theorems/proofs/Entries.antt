@@ -21,9 +21,9 @@ entries-agree page room i db head e b =
     let c = page-cell page room i db e b in
     let s = c .steps in
     let located : locatedOf page i db ≡ shown (c .l) = located-open page i db (s .first) ∙ s .second in
-    let entry : entryFor (openAnswer (openOf page db)) db i ≡ entryBy (locatedAnswer (shown (c .l))) =
+    let entry : entryFor (openAnswer (openOf page db)) db i ≡ entryBy (s .o) (locatedAnswer (shown (c .l))) =
     ap (λ (x : Answer Refusal Open). entryFor (openAnswer x) db i) (s .first)
-    ∙ ap (λ (x : Answer Refusal Located). entryBy (locatedAnswer x)) (s .second) in (
+    ∙ ap (λ (x : Answer Refusal Located). entryBy (s .o) (locatedAnswer x)) (s .second) in (
       cellShortest (c .l .cell),
       count-located page i db located ∙ ap (λ (y : Entry). co.Shown (y .columns) (cellShortest (c .l .cell))) (sym entry),
       row-located page i db located ∙ ap (λ (y : Entry). ro.Shown (y .row) (cellShortest (c .l .cell))) (sym entry),

@@ -17,7 +17,8 @@ use Rattle.page.specs.declared.Open.{Open}
 use Rattle.cells.specs.Pointers.{partAt}
 use Rattle.cells.specs.Located.{Located, locatedIn, locatedOf}
 use Rattle.cells.proofs.Laws.{Held, held, part-length, steps, toldOf}
-use Rattle.row.specs.Found.{payloadFrom, foundBy, Lying}
+use Rattle.row.specs.declared.FoundAnswer.the-variants as fo
+use Rattle.row.specs.Found.{payloadFrom, foundBy, cursorFor, Lying}
 use Rattle.row.specs.Column.{slotThen, columnBy, columnOf, columnFrom}
 
 pub record Placed (l : Located) (db : List ℕ) : Type 0 where
@@ -63,9 +64,13 @@ placed-in o i db e = held-placed o i db (held o i db e)
 pub placed : (page : Page) (i : ℕ) (db : List ℕ) {l : Located} → locatedOf page i db ≡ shown l → Placed l db
 placed page i db e = let s = steps page i db e in placed-in (s .o) i db (s .second)
 
--- what the code asks of it
-pub lying : (l : Located) (db : List ℕ) → Placed l db → Lying (toldOf l) (length db)
-lying l db p = (p .within, p .held .values, omega arith)
+-- a located cell by its page and what the code has of it: what the code asks of the two, and what it makes of them
+module _ (o : Open) (i : ℕ) (db : List ℕ) {l : Located} (e : locatedIn o i db ≡ shown l) where
+  pub lying : Lying o (toldOf l) (length db)
+  lying = let p = placed-in o i db e in rw (← held o i db e .opened) (p .within, p .held .values, omega arith)
+
+  pub found-told : foundBy (shown l) ≡ fo.Shown (record { page = o .page; cell = toldOf l .cell; cursor = cursorFor o (toldOf l) })
+  found-told = rw (held o i db e .opened)
 
 -- along the cursor are the columns of the definition
 pub column-along : (k : ℕ) (l : Located) (db : List ℕ) → Placed l db → columnFrom k db (foundBy (shown l)) ≡ columnBy k (shown l)

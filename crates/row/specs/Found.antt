@@ -5,6 +5,7 @@ use Rattle.answers.specs.Answer.{Answer, refused, shown}
 use Rattle.cell.specs.Cell.{told}
 use Rattle.columns.specs.declared.Cursor.{Cursor}
 use Rattle.columns.specs.Opened.{cursorAt}
+use Rattle.page.specs.declared.Open.{Open}
 use Rattle.cells.specs.declared.Located as dl
 use Rattle.cells.specs.Located.{Located}
 use Rattle.row.specs.declared.FoundAnswer.{FoundAnswer}
@@ -22,21 +23,21 @@ foundBy (refused refusal) = fo.Refused refusal
 foundBy (shown l) =
     fo.Shown (record { page = l .opened .page; cell = told (l .opened .page .reading) (l .cell); cursor = cursorIn l })
 
--- of a located cell as the code has it: where its payload begins, and its cursor
-abbrev pub fromFor : dl.Located → ℕ
-fromFor l = l .opened .at + l .pointer + l .cell .numbers .length
+-- of a cell of an opened page as the code has it: where its payload begins, and its cursor
+abbrev pub fromFor : Open → dl.Located → ℕ
+fromFor o l = o .at + l .pointer + l .cell .numbers .length
 
-abbrev pub cursorFor : dl.Located → Cursor
-cursorFor l =
+abbrev pub cursorFor : Open → dl.Located → Cursor
+cursorFor o l =
     record {
-      reading = l .opened .page .reading;
-      at = fromFor l + l .cell .header .length;
-      stop = fromFor l + l .cell .values;
-      value = fromFor l + l .cell .values;
-      end = fromFor l + l .cell .payload;
+      reading = o .page .reading;
+      at = fromFor o l + l .cell .header .length;
+      stop = fromFor o l + l .cell .values;
+      value = fromFor o l + l .cell .values;
+      end = fromFor o l + l .cell .payload;
     }
 
 -- its payload lies in so many bytes, and in that its header
-abbrev pub Lying : dl.Located → ℕ → Type 0
-Lying l bytes =
-    (fromFor l + l .cell .payload ≤ bytes) × (l .cell .values ≤ l .cell .payload) × (l .cell .header .length ≤ l .cell .values)
+abbrev pub Lying : Open → dl.Located → ℕ → Type 0
+Lying o l bytes =
+    (fromFor o l + l .cell .payload ≤ bytes) × (l .cell .values ≤ l .cell .payload) × (l .cell .header .length ≤ l .cell .values)

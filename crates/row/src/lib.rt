@@ -44,11 +44,10 @@ pub enum ColumnAnswer {
 }
 
 // The cursor before the first column of a cell that lies in so many bytes.
-fn cursor_in(bytes: usize, located: Located) -> Cursor
-    requires { ⌜ Lying located bytes ⌝ }
-    ensures { λ r. ⌜ r ≡ cursorFor located ⌝ }
+fn cursor_in(bytes: usize, opened: Open, located: Located) -> Cursor
+    requires { ⌜ Lying opened located bytes ⌝ }
+    ensures { λ r. ⌜ r ≡ cursorFor opened located ⌝ }
 {
-    let opened = located.opened;
     let page = opened.page;
     let reading: Reading = page.reading;
     let cell = located.cell;
@@ -73,13 +72,12 @@ pub fn found_in(db: &[u8], opened: Open, i: usize) -> FoundAnswer
     match answer {
         LocatedAnswer::Refused(refusal) => FoundAnswer::Refused(refusal),
         LocatedAnswer::Shown(located) => {
-            let its = located.opened;
-            let page = its.page;
+            let page = opened.page;
             let cell = located.cell;
             FoundAnswer::Shown(FoundCell {
                 page,
                 cell,
-                cursor: cursor_in(db.len(), located),
+                cursor: cursor_in(db.len(), opened, located),
             })
         }
     }

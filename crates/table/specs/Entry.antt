@@ -4,6 +4,7 @@ use mathlib.Core.List.{List, [], _∷_, _++_}
 use lib.IntN.{pos}
 use lib.ListN.{drop}
 use Rattle.kinds.specs.Kind.{kindByte}
+use Rattle.page.specs.declared.Open.{Open}
 use Rattle.page.specs.declared.OpenAnswer.{OpenAnswer}
 use Rattle.page.specs.declared.OpenAnswer.the-variants as oa
 use Rattle.cells.specs.declared.LocatedAnswer.{LocatedAnswer}
@@ -14,11 +15,11 @@ use Rattle.table.specs.declared.Entry.{Entry}
 abbrev pub none : Entry
 none = record { kind = 0; pointer = 0; child = 0; «payload_size» = 0; row = pos 0; «header_size» = 0; columns = 0 }
 
-abbrev pub entryBy : LocatedAnswer → Entry
-entryBy (la.Refused refusal) = none
-entryBy (la.Shown l) =
+abbrev pub entryBy : Open → LocatedAnswer → Entry
+entryBy o (la.Refused refusal) = none
+entryBy o (la.Shown l) =
     record {
-      kind = kindByte (l .opened .kind);
+      kind = kindByte (o .kind);
       pointer = l .pointer;
       child = l .cell .numbers .child;
       «payload_size» = l .cell .numbers .size .value;
@@ -30,7 +31,7 @@ entryBy (la.Shown l) =
 -- the entry of cell i of a page as it was opened; none where there is no such cell
 unfoldable pub entryFor : OpenAnswer → List ℕ → ℕ → Entry
 entryFor (oa.Refused refusal) db i = none
-entryFor (oa.Shown o) db i = entryBy (locatedAnswer (locatedIn o i db))
+entryFor (oa.Shown o) db i = entryBy o (locatedAnswer (locatedIn o i db))
 
 -- the entries of the first n cells
 unfoldable pub entries : OpenAnswer → List ℕ → ℕ → List Entry

@@ -184,13 +184,12 @@ fn no_entry() -> Entry
     }
 }
 
-fn entry_of(located: LocatedAnswer) -> Entry
-    ensures { λ r. ⌜ r ≡ entryBy located ⌝ }
+fn entry_of(opened: Open, located: LocatedAnswer) -> Entry
+    ensures { λ r. ⌜ r ≡ entryBy opened located ⌝ }
 {
     match located {
         LocatedAnswer::Refused(_) => no_entry(),
         LocatedAnswer::Shown(found) => {
-            let opened = found.opened;
             let kind = opened.kind;
             let cell: Cell = found.cell;
             let numbers = cell.numbers;
@@ -215,6 +214,6 @@ pub fn entry_by(db: &[u8], opening: OpenAnswer, i: usize) -> Entry
 {
     match opening {
         OpenAnswer::Refused(_) => no_entry(),
-        OpenAnswer::Shown(opened) => entry_of(cells::cell_in(db, opened, i)),
+        OpenAnswer::Shown(opened) => entry_of(opened, cells::cell_in(db, opened, i)),
     }
 }

@@ -20,7 +20,7 @@ add-t11 : tie.Need-add-t11
 add-t11 c = search needs
 
 add-t12 : tie.Need-add-t12
-add-t12 c = let k = c .before .before .before .before .before .before in omega (arith, k .before .before .before .before .before .pre .0)
+add-t12 c = let k = c .before .before .before .before .before .before in omega (arith, k .before .before .before .before .pre .0)
 
 returns : tie.Need-returns
 returns c = search needs

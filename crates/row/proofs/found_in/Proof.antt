@@ -6,7 +6,7 @@ use Rattle.cells.specs.Located.{locatedIn}
 use Rattle.cells.proofs.Laws.{Kept, kept, located-unanswered}
 use Rattle.row.specs.declared.FoundAnswer.the-variants as fo
 use Rattle.row.specs.Found.{cursorFor}
-use Rattle.row.proofs.Placed.{placed-in, lying}
+use Rattle.row.proofs.Placed.{lying, found-told}
 use borrow.Author.Needs.{needs}
 use Rattle.row.proofs.found_in.Statement.{statement}
 use Rattle.row.proofs.found_in.Tie as tie
@@ -30,8 +30,8 @@ here c =
 
 cursor-in-requires : tie.Need-cursor-in-requires
 cursor-in-requires c κs =
-    let k = c .before .before .before in
-    rw (← here k .same) (lying (here k .l) _ (placed-in _ _ _ (here k .is)))
+    let k = c .before .before in
+    rw (← here k .same) (lying _ _ _ (here k .is))
 
 returns : tie.Need-returns
 returns c =
@@ -40,8 +40,11 @@ returns c =
 
 returns-2 : tie.Need-returns-2
 returns-2 c =
-    let t = here (c .before .before .before .before) in
-    rw (t .is, c .cursor-in .ensures) (sym (ap (λ (x : dl.Located). fo.Shown (record { page = x .opened .page; cell = x .cell; cursor = cursorFor x })) (t .same)))
+    let k = c .before .before .before in
+    let o = k .before .before .before .before .before .args .opened in
+    let t = here k in
+    let same = ap (λ (x : dl.Located). fo.Shown (record { page = o .page; cell = x .cell; cursor = cursorFor o x })) (t .same) in
+    rw (t .is, c .cursor-in .ensures) (sym (found-told o _ _ (t .is) ∙ same))
 
 pub found-in-spec : {M : Type 1} → statement M
 found-in-spec =

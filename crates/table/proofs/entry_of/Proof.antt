@@ -24,7 +24,7 @@ returns : tie.Need-returns
 returns c = search needs
 
 returns-2 : tie.Need-returns-2
-returns-2 c = rw (c .before .before .before .before .before .before .before .before .located .given .1, c .before .byte .ensures, toZ-ofZ {w = w64} (record { sfits = c .row-of .ok }), c .row-of .ensures)
+returns-2 c = rw (c .before .before .before .before .before .before .before .located .given .1, c .before .byte .ensures, toZ-ofZ {w = w64} (record { sfits = c .row-of .ok }), c .row-of .ensures)
 
 pub entry-of-spec : {M : Type 1} → statement M
 entry-of-spec =
