@@ -153,6 +153,15 @@ shorgavel_page_answer shorgavel_page(const uint8_t *db, size_t length, uint8_t r
 shorgavel_page_answer shorgavel_entries(const uint8_t *db, size_t length, uint8_t reading, uint32_t page,
                                         shorgavel_cell_entry *table, size_t places);
 
+/* HALVES OF A TABLE, where two databases share one; any other number is taken for the second. Each half has places / 2 places: the
+ * first from place 0 on, the second behind it. An odd last place is in neither. */
+enum { SHORGAVEL_FIRST = 0, SHORGAVEL_SECOND = 1 };
+
+/* The page call on one half of a table: it answers and writes what shorgavel_entries does that is lent this half alone, so 19 counts
+ * against the half. No other place is written. */
+shorgavel_page_answer shorgavel_half_entries(const uint8_t *db, size_t length, uint8_t reading, uint32_t page, uint8_t half,
+                                             shorgavel_cell_entry *table, size_t places);
+
 /* The entry of a cell of a page. */
 shorgavel_cell_entry shorgavel_entry(const uint8_t *db, size_t length, uint8_t reading, uint32_t page, size_t cell);
 

@@ -8,7 +8,7 @@
 //! in the header: the test below holds their sizes, and `tests/gauge.rs` every field, to what C has. Answers are plain
 //! numbers, and every pattern of bits is one.
 
-use crate::Place;
+use crate::{Place, Slot};
 use std::mem::size_of;
 
 /// Why nothing is shown; number 0: nothing is refused.
@@ -79,19 +79,6 @@ pub struct Head {
 pub struct PageAnswer {
     pub refused: Refused,
     pub head: Head,
-}
-
-/// What a page says of one of its cells.
-#[repr(C)]
-#[derive(Clone, Copy, Default)]
-pub struct CellEntry {
-    pub kind: u8,
-    pub pointer: u32,
-    pub child: u32,
-    pub payload_size: u64,
-    pub row: i64,
-    pub header_size: u64,
-    pub columns: usize,
 }
 
 /// A page that is opened.
@@ -207,7 +194,17 @@ extern "C" {
         length: usize,
         reading: u8,
         page: u32,
-        table: *mut CellEntry,
+        table: *mut Slot,
+        places: usize,
+    ) -> PageAnswer;
+    #[cfg(test)]
+    fn shorgavel_half_entries(
+        db: *const u8,
+        length: usize,
+        reading: u8,
+        page: u32,
+        half: u8,
+        table: *mut Slot,
         places: usize,
     ) -> PageAnswer;
     fn shorgavel_open(db: *const u8, length: usize, reading: u8, page: u32) -> Opening;
@@ -280,10 +277,18 @@ pub fn page(db: &[u8], reading: u8, page: u32) -> PageAnswer {
 }
 
 /// The same, and the entries of all cells in the table.
-pub fn entries(db: &[u8], reading: u8, page: u32, table: &mut [CellEntry]) -> PageAnswer {
+pub fn entries(db: &[u8], reading: u8, page: u32, table: &mut [Slot]) -> PageAnswer {
     // SAFETY: both pairs of pointer and length are of one slice each. The table is lent alone, so nothing else sees it
     // while it is written; no more is written than its places, and what is written are numbers.
     unsafe { shorgavel_entries(db.as_ptr(), db.len(), reading, page, table.as_mut_ptr(), table.len()) }
+}
+
+/// The same on one half of the table: the first by 0, the second by any other number. An exchange lends each truck its half as a table
+/// of its own, so that the compiler keeps them apart; a test holds this call to that.
+#[cfg(test)]
+fn half_entries(db: &[u8], reading: u8, page: u32, half: u8, table: &mut [Slot]) -> PageAnswer {
+    // SAFETY: as for `entries`; any number names a half.
+    unsafe { shorgavel_half_entries(db.as_ptr(), db.len(), reading, page, half, table.as_mut_ptr(), table.len()) }
 }
 
 /// The page, its cells being looked at by no check yet.
@@ -430,7 +435,7 @@ mod tests {
         assert_eq!(size_of::<PagesAnswer>(), 40);
         assert_eq!(size_of::<Head>(), 32);
         assert_eq!(size_of::<PageAnswer>(), 56);
-        assert_eq!(size_of::<CellEntry>(), 48);
+        assert_eq!(size_of::<Slot>(), 48);
         assert_eq!(size_of::<Opened>(), 48);
         assert_eq!(size_of::<Opening>(), 72);
         assert_eq!(size_of::<Along>(), 32);
@@ -466,6 +471,7 @@ mod tests {
         assert_eq!(open(&[], 0, 0).refused.number, 1);
         assert_eq!([0, 1, 2].map(|reading| cell(&[], reading, 1, 0).refused.number), [1, 1, 1]);
         assert_eq!(entries(&[], 1, 1, &mut []).refused.number, 1);
+        assert_eq!(half_entries(&[], 1, 1, 0, &mut []).refused.number, 1);
         assert_eq!(table_count(&[], 1).refused.number, 1);
         assert_eq!(table_rows(&[], 1, &mut Vec::new()).refused.number, 1);
         assert_eq!(trusted_rows(&[], 1, &mut Vec::new()).refused.number, 1);
@@ -591,6 +597,25 @@ mod tests {
         assert_eq!(list.capacity(), places);
         list.resize(places, Place::new(9, 9, 9));
         list
+    }
+
+    /// The call on a half of a table leaves the table, and answers, as the call that is lent that half alone does.
+    #[test]
+    fn a_half_is_a_table_of_its_own() {
+        let bytes = one_row();
+        let blank = Slot { kind: 9, pointer: 9, child: 9, payload_size: 9, row: 9, header_size: 9, columns: 9 };
+        for (places, half, page) in
+            (0..6).flat_map(|places| [0, 1, 255].map(|half| (places, half, 1 + half as u32 % 2)))
+        {
+            let (mut whole, mut split) = (vec![blank; places], vec![blank; places]);
+            let (first, rest) = split.split_at_mut(places / 2);
+            let own = if half == 0 { first } else { &mut rest[..places / 2] };
+            let (asked, alone) = (half_entries(&bytes, 1, page, half, &mut whole), entries(&bytes, 1, page, own));
+            assert_eq!((asked.refused.number, asked.head.cells), (alone.refused.number, alone.head.cells));
+            assert_eq!(whole, split);
+        }
+        assert_eq!(half_entries(&bytes, 1, 1, 0, &mut [blank; 1]).refused.number, 19);
+        assert_eq!(half_entries(&bytes, 1, 1, 1, &mut [blank; 2]).head.cells, 1);
     }
 
     /// No page is asked to be one that a call answered.

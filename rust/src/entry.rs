@@ -1,5 +1,5 @@
 use crate::calls;
-use crate::{Kind, Reading};
+use crate::{Kind, Reading, Slot};
 
 /// The head of a page.
 #[derive(Clone, Copy, Debug, PartialEq, Eq)]
@@ -52,18 +52,18 @@ pub struct Entry {
 }
 
 impl Entry {
-    pub(crate) fn of(reading: Reading, entry: &calls::CellEntry) -> Entry {
-        let kind = Kind::of(entry.kind);
+    pub(crate) fn of(reading: Reading, slot: &Slot) -> Entry {
+        let kind = Kind::of(slot.kind);
         let has_record = kind != Kind::InteriorTable;
         let has_row = !kind.is_index() || reading == Reading::Old;
         Entry {
             kind,
-            cell_pointer: entry.pointer,
-            left_child_page_no: kind.is_interior().then_some(entry.child),
-            payload_size: has_record.then_some(entry.payload_size),
-            rowid: has_row.then_some(entry.row),
-            header_size: has_record.then_some(entry.header_size),
-            columns: entry.columns,
+            cell_pointer: slot.pointer,
+            left_child_page_no: kind.is_interior().then_some(slot.child),
+            payload_size: has_record.then_some(slot.payload_size),
+            rowid: has_row.then_some(slot.row),
+            header_size: has_record.then_some(slot.header_size),
+            columns: slot.columns,
         }
     }
 }

@@ -1,6 +1,6 @@
 use crate::bytes::Bytes;
 use crate::calls;
-use crate::{DbHeader, Leaves, Notes, Page, Reading, Refusal, Rows, Schema, Table, Value};
+use crate::{DbHeader, Head, Leaves, Notes, Page, Reading, Refusal, Rows, Schema, Slot, Table, Value};
 use std::ops::Range;
 
 /// How many pages a database has.
@@ -63,6 +63,13 @@ impl<'a> Gauge<'a> {
     /// Opens a page by its number, as the reading counts. The guarded reading opens table leaves only.
     pub fn get_page(&self, reading: Reading, pageno: u32) -> Result<Page<'a>, Refusal> {
         Page::open(self.bytes, reading, pageno)
+    }
+
+    /// The page call: a page's head, and in the table the entries of its cells.
+    pub(crate) fn page_call(&self, reading: Reading, pageno: u32, table: &mut [Slot]) -> Result<Head, Refusal> {
+        let answer = calls::entries(self.bytes.0, reading.number(), pageno, table);
+        Refusal::check(&answer.refused)?;
+        Ok(Head::of(&answer.head))
     }
 
     /// The table leaves in the order of the file: the pages of kind 13 that the file reading opens.

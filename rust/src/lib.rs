@@ -33,7 +33,7 @@
 //! Pages count from 0 in the old reading, as in the original's `get_page`, and from 1 in the other two; cells and columns
 //! count from 0. [`Gauge::schema`] names the tables, [`Gauge::table`] lists the rows of one in the order of their numbers, and
 //! [`Gauge::trusted`] lists them if old and file show every one of them alike. Long notes, which spill to overflow pages, are
-//! shown where [`Notes`] are lent. [`Cell::shortest`] tells whether a cell could have come from SQLite, by how its numbers are
+//! shown where [`Notes`] are lent. An [`Exchange`] has two databases over one table of entries. [`Cell::shortest`] tells whether a cell could have come from SQLite, by how its numbers are
 //! written. [`moving`] shows how to come over from sqlite-parser-nom.
 
 #![deny(unsafe_code)]
@@ -45,6 +45,7 @@ mod calls;
 mod cell;
 mod encoding;
 mod entry;
+mod exchange;
 mod gauge;
 mod header;
 mod kind;
@@ -56,6 +57,7 @@ mod reading;
 mod refusal;
 mod rows;
 mod schema;
+mod slot;
 mod table;
 mod value;
 mod values;
@@ -64,6 +66,7 @@ mod walk;
 pub use cell::{Cell, Cells};
 pub use encoding::TextEncoding;
 pub use entry::{Entry, Head};
+pub use exchange::{Exchange, Truck};
 pub use gauge::{Gauge, PageCount};
 pub use header::DbHeader;
 pub use kind::Kind;
@@ -75,6 +78,7 @@ pub use reading::Reading;
 pub use refusal::Refusal;
 pub use rows::{Leaves, Row, Rows};
 pub use schema::{Named, Root, Schema, Unread, Unreadable};
+pub use slot::Slot;
 pub use value::{Value, Width};
 pub use values::Values;
 pub use walk::{Table, TableRows};

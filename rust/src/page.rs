@@ -1,6 +1,6 @@
 use crate::bytes::Bytes;
 use crate::calls;
-use crate::{Cell, Cells, Entry, Head, Kind, Notes, Reading, Refusal};
+use crate::{Cell, Cells, Entry, Head, Kind, Notes, Reading, Refusal, Slot};
 
 /// A page that is opened: its kind and cell count are known, its cells are looked at one by one.
 #[derive(Clone, Copy, Debug)]
@@ -74,9 +74,9 @@ impl<'a> Page<'a> {
 
     /// The entries of all cells if every one is accepted, else the first refusal; of guarded pages, as for the head.
     pub fn entries(&self) -> Result<Vec<Entry>, Refusal> {
-        let mut table = vec![calls::CellEntry::default(); self.len()];
+        let mut table = vec![Slot::default(); self.len()];
         let answer = calls::entries(self.bytes.0, self.reading.number(), self.opened.number, &mut table);
         Refusal::check(&answer.refused)?;
-        Ok(table.iter().map(|entry| Entry::of(self.reading, entry)).collect())
+        Ok(table.iter().map(|slot| Entry::of(self.reading, slot)).collect())
     }
 }

@@ -1,5 +1,6 @@
-/* Calls every function of include/shorgavel.h that is lent no gather buffer on a database of one page, and checks every number
- * that it answers; notes.c calls the others, and shortest.c has cells with varints that are not in their shortest form.
+/* Calls every function of include/shorgavel.h for a page and its cells that is lent no gather buffer, on a database of one page, and
+ * checks every number that it answers; notes.c calls those that are lent one, shortest.c has cells with varints that are not in their
+ * shortest form, and halves.c the page call on a half of a table.
  *
  * The page is a table leaf of two rows, worked by hand: cell 0 is an idle load, a type 9, which the old reading shows as 0.
  */

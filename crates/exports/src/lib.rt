@@ -10,13 +10,15 @@ ghost use lib.Dec.{eqb};
 ghost use Rattle.place.specs.Place.{filePage};
 ghost use Rattle.spilled.specs.Lent as lent;
 ghost use Rattle.marked.specs.Marked as marked;
-ghost use Rattle.pages.specs.Pages.{openOf};
+ghost use Rattle.halves.specs.Halves.{roomOf, within};
+ghost use Rattle.pages.specs.Pages.{shareOf, openOf};
 ghost use Rattle.filled.specs.Run.{filledBy, over};
 ghost use Rattle.filled.specs.Row.{rowBy, rowOver};
 ghost use Rattle.gathered.specs.Rows.{rowLent, tableLent, bufferLent};
 ghost use Rattle.exports.specs.Calls.{headerOf, pagesOf, countedRows, listedRows, rowsOver, countedTrusted, listedTrusted, trustedOver, headOf, entryOf, entriesOver, openingOf, rowIn, oldCell, fileCell, guardedCell, oldRun, fileRun, oldShownOf, fileShownOf, guardedShownOf, fileLentOf, guardedLentOf, cellLent};
 use columns::Cursor;
 use filled::run;
+use halves::Share;
 use reading::Reading;
 use table::Entry;
 use turns::rows;
@@ -72,8 +74,33 @@ pub extern "C" fn shorgavel_entries(
     ensures { λ r. ⌜ (r ≡ headOf reading number (length (now (table .entry))) (now (db .entry)))
         × (now (table .exit) ≡ entriesOver reading number (now (db .entry)) (r .head .cells) (now (table .entry))) ⌝ }
 {
+    entries_by(db, reading, number, Share::Whole, table)
+}
+
+// The page call of one of two trucks over one table: it is lent a half of the table, the first by 0 and the second by any other number.
+// No other place is written, and a half with less room is refused.
+#[no_mangle]
+pub extern "C" fn shorgavel_half_entries(
+    db: &[u8],
+    reading: u8,
+    number: u32,
+    half: u8,
+    table: &mut [Entry],
+) -> PageHead
+    ensures { λ r. ⌜ (r ≡ headOf reading number (roomOf (shareOf half) (length (now (table .entry)))) (now (db .entry)))
+        × (now (table .exit) ≡ within (shareOf half) (entriesOver reading number (now (db .entry)) (r .head .cells)) (now (table .entry))) ⌝ }
+{
+    let share = pages::share_of(half);
+    entries_by(db, reading, number, share, table)
+}
+
+// The page call by numbers, that is lent a share of a table.
+fn entries_by(db: &[u8], reading: u8, number: u32, share: Share, table: &mut [Entry]) -> PageHead
+    ensures { λ r. ⌜ (r ≡ headOf reading number (roomOf share (length (now (table .entry)))) (now (db .entry)))
+        × (now (table .exit) ≡ within share (entriesOver reading number (now (db .entry)) (r .head .cells)) (now (table .entry))) ⌝ }
+{
     let page = pages::page_of(reading, number);
-    let answer = lent::page(db, page, table);
+    let answer = lent::page(db, page, share, table);
     pages::head_by(answer)
 }
 

@@ -1,10 +1,13 @@
--- The database and its pages as C has them: the header, the count of pages, the head of a page, and a page that is opened.
+-- The database and its pages as C has them: the header, the count of pages, the halves of a table, the head of a page, and a page that is
+-- opened.
 use Prim.Native.Nat.{ℕ}
 use lib.Dec.{eqb}
 use Rattle.laws.specs.Pick.{pick}
 use Rattle.reading.specs.declared.Reading.{Reading}
 use Rattle.reading.specs.declared.Reading.the-variants.{Old as old, File as file}
 use Rattle.answers.specs.declared.Refusal.the-variants.{OfDatabase}
+use Rattle.halves.specs.declared.Share.{Share}
+use Rattle.halves.specs.declared.Share.the-variants.{First, Second}
 use Rattle.header.specs.declared.Header as hd
 use Rattle.header.specs.declared.HeaderAnswer.{HeaderAnswer}
 use Rattle.header.specs.declared.HeaderAnswer.the-variants as ha
@@ -42,6 +45,11 @@ readingOf number = pick (eqb number 0) old file
 -- the page of that number, by the number of its reading
 abbrev pub pageOf : ℕ → ℕ → Page
 pageOf reading number = record { reading = readingOf reading; number = number }
+
+-- HALVES OF A TABLE: 0 is the first, any other number the second
+
+abbrev pub shareOf : ℕ → Share
+shareOf half = pick (eqb half 0) First Second
 
 -- THE HEADER, AND HOW MANY PAGES
 

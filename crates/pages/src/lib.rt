@@ -1,9 +1,10 @@
-// The database and its pages by numbers: the header, the rows of a table, the head of a page, and a page that is opened, there
-// and back.
+// The database and its pages by numbers: the header, the rows of a table, the halves of a lent table, the head of a page, and a page
+// that is opened, there and back.
 ghost use mathlib.Core.Path.{_≡_};
 ghost use lib.Dec.{eqb};
-ghost use Rattle.pages.specs.Pages.{numberOf, readingOf, pageOf, noFields, headerBy, pagesBy, listedBy, noHead, headBy, kindBy, unopened, openedOf, openingBy, openOf};
+ghost use Rattle.pages.specs.Pages.{numberOf, readingOf, pageOf, shareOf, noFields, headerBy, pagesBy, listedBy, noHead, headBy, kindBy, unopened, openedOf, openingBy, openOf};
 use answers::Refusal;
+use halves::Share;
 use header::HeaderAnswer;
 use kinds::Kind;
 use page::Open;
@@ -66,6 +67,18 @@ pub fn page_of(reading: u8, number: u32) -> Page
         reading: reading_of(reading),
         number,
     }
+}
+
+// HALVES OF A TABLE
+
+// Every number names a half, so that no call has to refuse one.
+pub fn share_of(half: u8) -> Share
+    ensures { λ r. ⌜ r ≡ shareOf half ⌝ }
+{
+    if half == 0 {
+        return Share::First;
+    }
+    Share::Second
 }
 
 // THE HEADER, AND HOW MANY PAGES

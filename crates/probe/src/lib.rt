@@ -4,6 +4,7 @@ ghost use mathlib.Core.Path.{_≡_};
 ghost use Rattle.probe.specs.Probe.{returnedOf, probeOf};
 // A page's answer may hold a refusal: the prover names each type that a value holds, and finds it by the crates that are named.
 use answers::Refusal;
+use halves::Share;
 use place::Page;
 use table::Entry;
 use table::PageAnswer;
@@ -54,6 +55,6 @@ pub fn probe(db: &[u8], asked: Page, i: usize) -> Probed
 fn lend(db: &[u8], asked: Page, mut table: [Entry; 8]) -> Returned
     ensures { λ r. ⌜ r ≡ returnedOf asked (now (db .entry)) table ⌝ }
 {
-    let answer = lent::page(db, asked, &mut table);
+    let answer = lent::page(db, asked, Share::Whole, &mut table);
     Returned { answer, table }
 }
