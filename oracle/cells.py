@@ -8,8 +8,9 @@ import subprocess
 from collections import namedtuple
 
 import lent
+import linked
 
-WORK = lent.ROOT / "target" / "cells"
+WORK = linked.ROOT / "target" / "cells"
 # A refusal is number, mark, page, cell and column.
 Answer = namedtuple("Answer", "refused row columns along shortest")
 WORDS = struct.Struct("<5QqQ4QQ")
@@ -17,12 +18,7 @@ WORDS = struct.Struct("<5QqQ4QQ")
 
 def built():
     """The command that answers."""
-    WORK.mkdir(parents=True, exist_ok=True)
-    compiler, under = lent.machine()
-    flags = ["-std=c11", "-Wall", "-Wextra", "-Werror", "-O2", "-static", "-I", lent.ROOT / "include"]
-    source = lent.ROOT / "oracle" / "cells.c"
-    subprocess.run([compiler, *flags, "-o", WORK / "cells", source, lent.library()], check=True)
-    return [*under, str(WORK / "cells")]
+    return linked.built("cells")
 
 
 def answers(command, data, asked):

@@ -5,16 +5,13 @@ page, cell, column, the buffer's room, the table's places, and the byte that the
 words that `Answer` names, then the bytes of the buffer up to the last that is not as it was filled, and six words for each
 column.
 """
-import os
-import platform
-import shutil
 import struct
 import subprocess
 from collections import namedtuple
-from pathlib import Path
 
-ROOT = Path(__file__).resolve().parent.parent
-WORK = ROOT / "target" / "lent"
+import linked
+
+WORK = linked.ROOT / "target" / "lent"
 OLD, FILE, GUARDED = 0, 1, 2
 
 Asked = namedtuple("Asked", "reading page cell column room places fill")
@@ -31,33 +28,9 @@ WORDS = struct.Struct("<5Q 5QqQQ4QQ 5QQQqQQQQQ 15Q QQQ Q")
 VALUE = struct.Struct("<QQqQQQ")
 
 
-def machine():
-    """The compiler for x86-64, and what its programs are run by, as in bin/c-test."""
-    if platform.machine() == "x86_64":
-        return "gcc", []
-    home = os.environ.get("RATTLE_HOME") or Path(shutil.which("rt") or "rt").resolve().parent.parent
-    return "x86_64-linux-gnu-gcc", [f"{home}/on/{platform.machine()}/toolchain/bin/qemu-x86_64"]
-
-
-def library():
-    """The static library in the folder that SHORGAVEL_LIBRARY names, else one that is proved and built."""
-    folder = os.environ.get("SHORGAVEL_LIBRARY")
-    if folder:
-        return Path(folder) / "libexports.a"
-    words = ["rt", "staticlib", "exports"]
-    done = subprocess.run(words, cwd=ROOT, stdin=subprocess.DEVNULL, capture_output=True, text=True)
-    if done.returncode != 0:
-        raise OSError(f"{done.stdout}{done.stderr}exports is not proved, and is not linked")
-    return ROOT / "target" / "staticlib" / "libexports.a"
-
-
 def built():
     """The command that answers."""
-    WORK.mkdir(parents=True, exist_ok=True)
-    compiler, under = machine()
-    flags = ["-std=c11", "-Wall", "-Wextra", "-Werror", "-O2", "-static", "-I", ROOT / "include"]
-    subprocess.run([compiler, *flags, "-o", WORK / "lent", ROOT / "oracle" / "lent.c", library()], check=True)
-    return [*under, str(WORK / "lent")]
+    return linked.built("lent")
 
 
 def database(data):

@@ -12,8 +12,9 @@ import subprocess
 from collections import namedtuple
 
 import lent
+import linked
 
-WORK = lent.ROOT / "target" / "listed"
+WORK = linked.ROOT / "target" / "listed"
 # A refusal is number, mark, page, cell and column. `rows` is one array, three words a row.
 ROWS, TRUSTED = 2, 3
 Asked = namedtuple("Asked", "what root more")
@@ -24,12 +25,7 @@ ROW = 3
 
 def built():
     """The command that answers."""
-    WORK.mkdir(parents=True, exist_ok=True)
-    compiler, under = lent.machine()
-    flags = ["-std=c11", "-Wall", "-Wextra", "-Werror", "-O2", "-static", "-I", lent.ROOT / "include"]
-    source = lent.ROOT / "oracle" / "listed.c"
-    subprocess.run([compiler, *flags, "-o", WORK / "listed", source, lent.library()], check=True)
-    return [*under, str(WORK / "listed")]
+    return linked.built("listed")
 
 
 def answers(command, cases):
