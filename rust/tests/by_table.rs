@@ -107,10 +107,12 @@ fn compare_goes_by_tables_and_tells_the_rest_apart() {
     let mut bytes = two_leaves();
     let output = fed(&["compare", "-"], &bytes);
     let expected = "\
+page 4: no tablet showed any of its 2 cells: the original refuses the page for cell 0: 13 CellCut: the cell is cut short
 page 4 cell 0: a varint of over five bytes: old refuses it (13 CellCut: the cell is cut short), the gauge wrote row -5: 10
 table keyed is not compared: it has no row numbers: its rows are in an index, and are not listed
 table far is not compared: it is virtual: it has no pages of its own
 of no table: page 5 cell 0 column 0: type 9: old shows 0, the gauge wrote 1
+1 page with 2 cells is refused by the original: what old shows there was on no tablet
 1 cells of no table, deleted or damaged, do not count: 1 part, 0 are refused by old and file alike
 7 cells compared: 1 part, 0 are refused by old and file alike
 ";
@@ -130,15 +132,44 @@ fn compare_lists_what_both_refuse_apart() {
     leaf(&mut bytes, 5, &[(1, vec![2, 11])]);
     let output = fed(&["compare", "-"], &bytes);
     let expected = "\
+page 4: no tablet showed any of its 2 cells: the original refuses the page for cell 0: 15 TypeReserved in column 0: the \
+type is 10 or 11, which are reserved
 table keyed is not compared: it has no row numbers: its rows are in an index, and are not listed
 table far is not compared: it is virtual: it has no pages of its own
+of no table: page 5: no tablet showed its one cell: the original refuses the page for cell 0: 15 TypeReserved in column \
+0: the type is 10 or 11, which are reserved
 refused by old and file alike, and no part of the verdict:
 page 4 cell 0: 15 TypeReserved in column 0: the type is 10 or 11, which are reserved
 of no table: page 5 cell 0: 15 TypeReserved in column 0: the type is 10 or 11, which are reserved
+1 page with 2 cells is refused by the original: what old shows there was on no tablet
 1 cells of no table, deleted or damaged, do not count: 0 part, 1 are refused by old and file alike
 7 cells compared: 0 part, 1 are refused by old and file alike
 ";
     assert_eq!((out(&output), err(&output), status(&output)), (expected, "", 0));
+}
+
+/// The original answers a page whole or not at all. Cell 1 of page 2 ends it there; of the others the old reading still tells
+/// what it shows of each alone, and that no tablet did.
+#[test]
+fn compare_tells_pages_of_which_no_tablet_showed_anything() {
+    let mut bytes = pages(3);
+    let rows = [(1, vec![2, 9]), (2, vec![2, 10]), row(3, 7)];
+    leaf(&mut bytes, 2, &rows);
+    let output = fed(&["compare", "-"], &named(bytes.clone(), "load", 2));
+    let expected = "\
+page 2: no tablet showed any of its 3 cells: the original refuses the page for cell 1: 15 TypeReserved in column 0: the \
+type is 10 or 11, which are reserved
+page 2 cell 0 column 0: type 9: old shows 0, the gauge wrote 1
+refused by old and file alike, and no part of the verdict:
+page 2 cell 1: 15 TypeReserved in column 0: the type is 10 or 11, which are reserved
+1 page with 3 cells is refused by the original: what old shows there was on no tablet
+4 cells compared: 1 part, 1 are refused by old and file alike
+";
+    assert_eq!((out(&output), status(&output)), (expected, 1));
+    // Without that cell the tablets showed the page, a 0 for the stored 1 in it.
+    leaf(&mut bytes, 2, &[(1, vec![2, 9]), row(3, 7)]);
+    let output = fed(&["compare", "-"], &named(bytes, "load", 2));
+    assert!(!out(&output).contains("tablet"), "{}", out(&output));
 }
 
 /// A table that is refused is not compared, and then nothing is content.

@@ -178,6 +178,8 @@ fn a_page_past_the_end_tells_which_there_are() {
 fn compare_says_where_the_readings_part() {
     let output = run(&[OsStr::new("compare"), kept("rows_hand", "stdin").as_os_str()]);
     let expected = "\
+page 1: no tablet showed any of its 12 cells: the original refuses the page for cell 1: 14 HeaderUnfit: the record's \
+header does not fit
 page 1 cell 4 column 0: type 9: old shows 0, the gauge wrote 1
 page 1 cell 6 column 0: an empty text: old shows null, the gauge wrote ''
 page 1 cell 10: a header size that is not in one byte: old shows row 11: 8, 11003806875647, the gauge wrote row 11: 5
@@ -188,6 +190,7 @@ page 1 cell 11: file refuses it (14 HeaderUnfit: the record's header does not fi
 refused by old and file alike, and no part of the verdict:
 page 1 cell 1: 14 HeaderUnfit: the record's header does not fit
 page 1 cell 7: 15 TypeReserved in column 0: the type is 10 or 11, which are reserved
+1 page with 12 cells is refused by the original: what old shows there was on no tablet
 2 cells of no table, deleted or damaged, do not count: 1 part, 0 are refused by old and file alike
 12 cells compared: 4 part, 2 are refused by old and file alike
 ";
@@ -236,6 +239,8 @@ fn compare_shows_long_notes() {
     let place = |cell: usize| format!("page 2 cell {cell}: a long note, whose payload spills: old refuses it (");
     let passes = "16 ValueUnfit in column 1: the value passes the end, or bytes are left over behind the last";
     let mut lines = out(&output).lines();
+    let none = "page 2: no tablet showed any of its 4 cells: the original refuses the page for cell 0";
+    assert_eq!(lines.next(), Some(&*format!("{none}: {passes}")));
     for (cell, payload) in [(0, 600), (1, 987)] {
         let row = format!("row {}: 5, '{}'… ({} bytes), null, x'", cell + 1, text(payload), payload - 9);
         let expected = format!("{}{passes}), the gauge wrote {row}", place(cell));
@@ -246,6 +251,8 @@ fn compare_shows_long_notes() {
     assert!(column.ends_with(&wrote));
     let blob = lines.next().unwrap();
     assert!(blob.starts_with("page 2 cell 3 column 3: a long note, whose payload spills: old shows x'"));
+    let none = "1 page with 4 cells is refused by the original: what old shows there was on no tablet";
+    assert_eq!(lines.next(), Some(none));
     assert_eq!(lines.next(), Some("5 cells compared: 3 part, 0 are refused by old and file alike"));
     assert_eq!((lines.next(), status(&output)), (None, 1));
 }
@@ -261,7 +268,7 @@ fn compare_tells_what_is_refused_of_long_notes() {
     let both = "old: 16 ValueUnfit in column 1: the value passes the end, or bytes are left over behind the last; \
                 file: 23 ChainUnfit: the overflow chain leaves the file, ends early or goes on";
     let heading = "refused by old and file alike, and no part of the verdict:";
-    assert!(out(&output).contains(&format!("\n{heading}\npage 2 cell 1: {both}\n5 cells compared: ")));
+    assert!(out(&output).contains(&format!("\n{heading}\npage 2 cell 1: {both}\n1 page with 4 cells is refused ")));
     assert_eq!(out(&output).matches("page 2 cell 1").count(), 1);
     assert!(out(&output).contains("\npage 2 cell 3 column 1: a long note, whose payload spills: old shows "));
     assert!(out(&output).contains("\npage 2 cell 3 column 2: type 9: old shows 0, the gauge wrote 1\n"));

@@ -8,8 +8,8 @@ use crate::out::Out;
 use crate::progress::Progress;
 use crate::reason;
 use crate::trees::{Trees, Work};
-use crate::words;
-use shorgavel::{Gauge, Reading};
+use crate::words::{self, counted};
+use shorgavel::{Gauge, Reading, TextEncoding};
 use std::io::{self, Write};
 
 /// What a line on a page of no table starts with.
@@ -21,13 +21,14 @@ pub fn show(database: &Database, out: &mut Out) -> Result<(), Failure> {
     let encoding = gauge.header(Reading::File)?.db_text_encoding;
     let mut sides = Sides { gauge, lent: Lent::default() };
     let mut progress = Progress::new(trees.leaves().count() + trees.loose.len());
-    let parting = |trio: &Trio<'_>| reason::lines(trio, encoding);
+    let parting = Told::Parting(encoding);
 
     let tables = sides.pages(trees.leaves(), "", &mut progress, parting, out)?;
     apart(&trees, out)?;
     let loose = sides.pages(trees.loose.iter().copied(), LOOSE, &mut progress, parting, out)?;
     drop(progress);
     sides.refused(&tables, &loose, out)?;
+    tables.unshown(out)?;
     if loose.count.cells > 0 {
         let Count { cells, parted, refused } = loose.count;
         write!(out, "{cells} cells of no table, deleted or damaged, do not count: ")?;
@@ -44,11 +45,52 @@ struct Sides<'a> {
     lent: Lent,
 }
 
+/// Which rows lines are written on.
+#[derive(Clone, Copy)]
+enum Told {
+    /// Those on which the readings part, and the pages that the original refuses whole.
+    Parting(TextEncoding),
+    /// Those that old and file refuse.
+    Refused,
+}
+
+impl Told {
+    fn lines(self, trio: &Trio<'_>) -> Vec<String> {
+        match self {
+            Told::Parting(encoding) => reason::lines(trio, encoding),
+            Told::Refused => reason::refused(trio).into_iter().collect(),
+        }
+    }
+
+    /// What is said before a page's lines, where old refuses one of its cells.
+    fn page(self, leaf: &Leaf<'_>) -> Option<String> {
+        match self {
+            Told::Parting(_) => reason::refused_whole(leaf),
+            Told::Refused => None,
+        }
+    }
+}
+
 /// What some pages hold, and on which of them are rows that old and file refuse.
 #[derive(Default)]
 struct Compared {
     count: Count,
     refusing: Vec<u32>,
+    /// How many pages the original refuses whole, and how many cells they have.
+    unshown: (usize, usize),
+}
+
+impl Compared {
+    /// What was on no tablet, whatever the old reading shows of it.
+    fn unshown(&self, out: &mut Out) -> io::Result<()> {
+        let (pages, cells) = self.unshown;
+        if pages == 0 {
+            return Ok(());
+        }
+        let are = if pages == 1 { "is" } else { "are" };
+        let (pages, cells) = (counted(pages, "page"), counted(cells, "cell"));
+        writeln!(out, "{pages} with {cells} {are} refused by the original: what old shows there was on no tablet")
+    }
 }
 
 impl Sides<'_> {
@@ -58,26 +100,34 @@ impl Sides<'_> {
         pages: impl Iterator<Item = u32>,
         before: &str,
         progress: &mut Progress,
-        lines: impl Fn(&Trio<'_>) -> Vec<String>,
+        told: Told,
         out: &mut Out,
     ) -> Result<Compared, Failure> {
-        let Compared { mut count, mut refusing } = Compared::default();
+        let mut compared = Compared::default();
         for page in pages {
             progress.step();
-            let (leaf, known) = (Leaf::open(&self.gauge, page)?, count.refused);
-            count.leaf(&leaf, &mut self.lent, |trio| {
-                for line in lines(trio) {
-                    out.text(before.as_bytes());
-                    out.text(line.as_bytes());
-                    out.text(b"\n");
-                }
+            let (leaf, known) = (Leaf::open(&self.gauge, page)?, compared.count.refused);
+            let (mut lines, mut old_refuses) = (Vec::new(), false);
+            compared.count.leaf(&leaf, &mut self.lent, |trio| {
+                old_refuses |= trio.old.is_err();
+                lines.extend(told.lines(trio));
             });
-            if count.refused > known {
-                refusing.push(page);
+            let whole = if old_refuses { told.page(&leaf) } else { None };
+            if whole.is_some() {
+                compared.unshown.0 += 1;
+                compared.unshown.1 += leaf.len();
+            }
+            if compared.count.refused > known {
+                compared.refusing.push(page);
+            }
+            for line in whole.into_iter().chain(lines) {
+                out.text(before.as_bytes());
+                out.text(line.as_bytes());
+                out.text(b"\n");
             }
             out.pass()?;
         }
-        Ok(Compared { count, refusing })
+        Ok(compared)
     }
 
     /// The rows that old and file refuse. Their pages are gone through again, so that of a page nothing is kept but its
@@ -88,10 +138,9 @@ impl Sides<'_> {
             return Ok(());
         }
         let mut progress = Progress::new(own.len() + others.len());
-        let refused = |trio: &Trio<'_>| reason::refused(trio).into_iter().collect();
         writeln!(out, "refused by old and file alike, and no part of the verdict:")?;
-        self.pages(own.iter().copied(), "", &mut progress, refused, out)?;
-        self.pages(others.iter().copied(), LOOSE, &mut progress, refused, out)?;
+        self.pages(own.iter().copied(), "", &mut progress, Told::Refused, out)?;
+        self.pages(others.iter().copied(), LOOSE, &mut progress, Told::Refused, out)?;
         Ok(())
     }
 }

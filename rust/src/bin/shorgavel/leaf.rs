@@ -57,6 +57,14 @@ impl<'a> Leaf<'a> {
         self.file.len()
     }
 
+    /// Why the original shows nothing of this page; none where it does. It answers a page whole or not at all, so where it
+    /// refuses one cell, what the old reading shows of the others was never on a tablet.
+    ///
+    /// Where guarded shows every cell, old does too, and there is nothing to ask for.
+    pub fn refused_whole(&self) -> Option<Refusal> {
+        self.old.head().err()
+    }
+
     pub fn trio<'n>(&self, cell: usize, lent: &'n mut Lent) -> Trio<'n>
     where
         'a: 'n,

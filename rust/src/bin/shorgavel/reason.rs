@@ -1,7 +1,7 @@
 //! Why the readings part on a cell, in words: a line, or one for each column that differs.
 
-use crate::leaf::{Standing, Trio};
-use crate::words;
+use crate::leaf::{Leaf, Standing, Trio};
+use crate::words::{self, counted};
 use shorgavel::{Cell, Mark, Refusal, TextEncoding, Value};
 
 /// The lines on a cell that parts; none on another.
@@ -25,6 +25,19 @@ pub fn lines(trio: &Trio<'_>, encoding: TextEncoding) -> Vec<String> {
             vec![line]
         }
     }
+}
+
+/// The line on a page of which the original shows nothing; none on another.
+pub fn refused_whole(leaf: &Leaf<'_>) -> Option<String> {
+    let refusal = leaf.refused_whole()?;
+    let cells = match leaf.len() {
+        1 => "its one cell".to_string(),
+        cells => format!("any of its {}", counted(cells, "cell")),
+    };
+    let cell = refusal.cell().map_or(String::new(), |cell| format!(" for cell {cell}"));
+    let mut line = format!("page {}: no tablet showed {cells}: the original refuses the page{cell}: ", leaf.number());
+    words::refusal(&mut line, refusal);
+    Some(line)
 }
 
 /// The line on a cell that old and file refuse; none on another. One reason is told once.
