@@ -1,4 +1,5 @@
-//! The command `shorgavel trust` of several files and folders: a line each in their order, what they come to, and the same as CSV.
+//! The command `shorgavel trust` of several files and folders: a line each in their order, what they come to, and the same as CSV and
+//! as JSON.
 
 mod common;
 
@@ -11,8 +12,9 @@ use std::fs;
 /// A file for each verdict, and one that is no database.
 fn of_all(name: &str) -> Folder {
     let folder = Folder::new(name);
-    fs::create_dir(folder.0.join("sub")).unwrap();
+    fs::create_dir_all(folder.0.join("sub/deeper")).unwrap();
     folder.put("sub/hidden.db", &agreeing());
+    folder.put("sub/deeper/below.db", &two_leaves());
     folder.put("agrees.db", &agreeing());
     folder.put("parts.db", &two_leaves());
     folder.put("cut.db", &cut(agreeing()));
@@ -55,7 +57,9 @@ fn a_folder_has_a_line_for_each_database() {
 ./empty.db: nothing compared
 ./parts.db: parts, 2 tables, 7 rows; the first that parts is row -5 of load (page 4, cell 0)
 ./short.db: refused; 2 HeaderCut: there are fewer than 100 bytes
-6 files: 1 agrees, 1 parts, 2 are refused, 1 is cut, 1 has no row to compare
+./sub/deeper/below.db: parts, 2 tables, 7 rows; the first that parts is row -5 of load (page 4, cell 0)
+./sub/hidden.db: agrees, 2 tables, 7 rows
+8 files: 2 agree, 2 part, 2 are refused, 1 is cut, 1 has no row to compare
 "
     );
     assert_eq!((out(&output), err(&output), status(&output)), (expected.as_str(), "", 4));
@@ -76,6 +80,8 @@ file,verdict,tables,rows,first table,first row,first page,first cell,notes
 ./empty.db,nothing compared,0,0,,,,,
 ./parts.db,parts,2,7,load,-5,4,0,
 ./short.db,refused,0,0,,,,,2 HeaderCut: there are fewer than 100 bytes
+./sub/deeper/below.db,parts,2,7,load,-5,4,0,
+./sub/hidden.db,agrees,2,7,,,,,
 "
     );
     assert_eq!((out(&output), err(&output), status(&output)), (expected.as_str(), "", 4));
@@ -85,6 +91,44 @@ file,verdict,tables,rows,first table,first row,first page,first cell,notes
     assert_eq!((out(&alone).lines().count(), status(&alone)), (2, 1));
     assert!(out(&folder.run(&["trust", "parts.db"])).starts_with("parts.db: do the printed sheets"));
     assert!(err(&folder.run(&["compare", "parts.db", "--csv"])).starts_with("shorgavel: compare takes no --csv; "));
+}
+
+/// An object a line, with the same in it; of one file too.
+#[test]
+fn json_has_the_same_in_objects() {
+    let folder = of_all("json");
+    folder.put("a \"b\"\\.db", &agreeing());
+    let output = folder.run(&["trust", "--json", "."]);
+    let expected = format!(
+        r#"{{"file":"./a \"b\"\\.db","verdict":"agrees","tables":2,"rows":7,"notes":[]}}
+{{"file":"./agrees.db","verdict":"agrees","tables":2,"rows":7,"notes":[]}}
+{{"file":"./cut.db","verdict":"cut","tables":2,"rows":7,"notes":["6 of its 7 pages are there"]}}
+{{"file":"./damaged.db","verdict":"refused","tables":2,"rows":3,"notes":["{DAMAGED}"]}}
+{{"file":"./empty.db","verdict":"nothing compared","tables":0,"rows":0,"notes":[]}}
+{{"file":"./parts.db","verdict":"parts","tables":2,"rows":7,"first":{{"table":"load","row":-5,"page":4,"cell":0}},"notes":[]}}
+{{"file":"./short.db","verdict":"refused","tables":0,"rows":0,"notes":["2 HeaderCut: there are fewer than 100 bytes"]}}
+{{"file":"./sub/deeper/below.db","verdict":"parts","tables":2,"rows":7,"first":{{"table":"load","row":-5,"page":4,"cell":0}},"notes":[]}}
+{{"file":"./sub/hidden.db","verdict":"agrees","tables":2,"rows":7,"notes":[]}}
+"#
+    );
+    assert_eq!((out(&output), err(&output), status(&output)), (expected.as_str(), "", 4));
+    let alone = folder.run(&["trust", "agrees.db", "--json"]);
+    let line = r#"{"file":"agrees.db","verdict":"agrees","tables":2,"rows":7,"notes":[]}"#;
+    assert_eq!((out(&alone), status(&alone)), (format!("{line}\n").as_str(), 0));
+    let both = folder.run(&["trust", "--json", "--csv", "."]);
+    assert!(err(&both).starts_with("shorgavel: --csv and --json do not go together; ") && status(&both) == 2);
+}
+
+/// A link to a folder may lead back up: it is not followed, but where it is named.
+#[test]
+fn links_to_folders_are_followed_only_where_they_are_named() {
+    let folder = of_all("links");
+    std::os::unix::fs::symlink("..", folder.0.join("sub/up")).unwrap();
+    std::os::unix::fs::symlink("deeper", folder.0.join("sub/link")).unwrap();
+    assert!(out(&folder.run(&["trust", "."]))
+        .ends_with("\n8 files: 2 agree, 2 part, 2 are refused, 1 is cut, 1 has no row to compare\n"));
+    let named = folder.run(&["trust", "sub/link"]);
+    assert!(out(&named).starts_with("sub/link/below.db: parts") && out(&named).ends_with("\n1 file: 1 parts\n"));
 }
 
 /// Unread, cut, parting or refused, nothing compared, agreeing.
@@ -117,9 +161,10 @@ fn it_goes_on_past_what_it_cannot_read() {
         lines[1..],
         [
             "words.txt: refused; 1 OpeningDiffers: the 16 opening bytes of a database are not there",
+            "sub/deeper/below.db: parts, 2 tables, 7 rows; the first that parts is row -5 of load (page 4, cell 0)",
             "sub/hidden.db: agrees, 2 tables, 7 rows",
             "parts.db: parts, 2 tables, 7 rows; the first that parts is row -5 of load (page 4, cell 0)",
-            "4 files: 1 agrees, 1 parts, 1 is refused, 1 cannot be read",
+            "5 files: 1 agrees, 2 part, 1 is refused, 1 cannot be read",
         ]
     );
     assert_eq!((err(&output), status(&output)), ("shorgavel: bare is a folder with no database in it\n", 3));
@@ -184,8 +229,12 @@ fn a_list_is_written_to_a_file() {
     let output = folder.run(&["trust", "--csv", ".", "-o", "list.csv"]);
     assert_eq!((out(&output), status(&output)), ("", 4));
     assert_eq!(fs::read_to_string(folder.0.join("list.csv")).unwrap(), out(&shown));
-    for words in [["trust", ".", "-o", "agrees.db"], ["trust", "--csv", "parts.db", "--output=parts.db"]] {
-        let output = folder.run(&words);
+    for words in [
+        &["trust", ".", "-o", "agrees.db"][..],
+        &["trust", ".", "-o", "sub/deeper/below.db"],
+        &["trust", "--csv", "parts.db", "--output=parts.db"],
+    ] {
+        let output = folder.run(words);
         assert!(err(&output).contains(" is a file that is read: it is not written over") && status(&output) == 2);
     }
     assert_eq!(fs::read(folder.0.join("agrees.db")).unwrap(), agreeing());

@@ -1,9 +1,9 @@
 //! What the words of the command ask for.
 
 use crate::failure::Failure;
+use crate::form::Form;
 use crate::lines::Lines;
 use crate::options::{self, Words};
-use crate::trust::Form;
 use shorgavel::{Notes, Reading};
 use std::ffi::{OsStr, OsString};
 use std::path::Path;
@@ -72,7 +72,7 @@ fn order(name: &str, words: &mut Words) -> Result<Order, Failure> {
     let mut plain = std::mem::take(&mut words.plain).into_iter();
     let mut next = |what: &str| plain.next().ok_or_else(|| wrong(format!("{name}: {what} is missing")));
     let order = match name {
-        "trust" => trust(next("FILE")?, plain.by_ref(), words.csv),
+        "trust" => trust(next("FILE")?, plain.by_ref(), words.form),
         "writer" => Order::Writer(next("FILE")?),
         "header" => Order::Header(next("FILE")?),
         "page" => Order::Page(next("FILE")?, number(&next("N")?)?, words.reading.unwrap_or(Reading::File)),
@@ -80,7 +80,10 @@ fn order(name: &str, words: &mut Words) -> Result<Order, Failure> {
         "rows" => {
             let readings = words.reading.map_or(Reading::ALL.to_vec(), |one| vec![one]);
             let notes = words.notes.then(Notes::new);
-            Order::Rows(next("FILE")?, Lines { readings, notes, table: words.table })
+            Order::Rows(
+                next("FILE")?,
+                Lines { readings, notes, table: words.table, form: words.form.unwrap_or_default() },
+            )
         }
         "compare" => Order::Compare(next("FILE")?),
         "sheet" => Order::Sheet(next("FILE")?, if words.parting { Rows::Parting } else { Rows::All }),
@@ -92,22 +95,24 @@ fn order(name: &str, words: &mut Words) -> Result<Order, Failure> {
 }
 
 /// One file has a page to be printed; a folder is several files, whatever is in it.
-fn trust(first: OsString, more: impl Iterator<Item = OsString>, csv: bool) -> Order {
+fn trust(first: OsString, more: impl Iterator<Item = OsString>, form: Option<Form>) -> Order {
     let files: Vec<_> = [first].into_iter().chain(more).collect();
     match &files[..] {
-        [file] if !csv && (file == "-" || !Path::new(file).is_dir()) => Order::Trust(file.clone()),
-        _ => Order::TrustMany(files, if csv { Form::Csv } else { Form::Words }),
+        [file] if form.is_none() && (file == "-" || !Path::new(file).is_dir()) => Order::Trust(file.clone()),
+        _ => Order::TrustMany(files, form.unwrap_or_default()),
     }
 }
 
 /// The first word or option for which the command has no use.
 fn unfit(name: &str, order: &Order, words: &Words) -> Option<Failure> {
     let rows = matches!(order, Order::Rows(..));
+    let listed = rows || matches!(order, Order::TrustMany(..));
     let options = [
         ("--reading", words.reading.is_some(), rows || matches!(order, Order::Page(..))),
         ("--table", words.table.is_some(), rows),
         ("--notes", words.notes, rows),
-        ("--csv", words.csv, matches!(order, Order::TrustMany(..))),
+        ("--csv", words.form == Some(Form::Csv), listed),
+        ("--json", words.form == Some(Form::Json), listed),
         ("--parting", words.parting, matches!(order, Order::Sheet(..))),
     ];
     let more = words.plain.first().map(|more| format!("{name}: {} is one word too many", more.to_string_lossy()));

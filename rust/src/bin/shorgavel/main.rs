@@ -4,12 +4,16 @@
 
 mod args;
 mod compare;
+mod csv;
 mod failure;
 mod folded;
+mod form;
 mod header;
 mod input;
+mod json;
 mod leaf;
 mod lines;
+mod many;
 mod options;
 mod out;
 mod page;
@@ -60,7 +64,7 @@ fn spare(file: &OsStr, output: &OsStr) -> Result<(), Failure> {
     let (Ok(read), Ok(written)) = (fs::canonicalize(file), fs::canonicalize(output)) else {
         return Ok(());
     };
-    let in_folder = || written.parent() == Some(&read) && input::is_database(&written).unwrap_or(false);
+    let in_folder = || written.starts_with(&read) && input::is_database(&written).unwrap_or(false);
     if written.is_file() && (read == written || in_folder()) {
         let name = output.to_string_lossy();
         return Err(Failure::Usage(format!("{name} is a file that is read: it is not written over")));
@@ -75,7 +79,7 @@ fn show(order: Order, out: &mut Out) -> Result<(), Failure> {
             Ok(())
         }
         Order::Trust(file) => whole(&file, |database| trust::show(database, out)),
-        Order::TrustMany(files, form) => trust::show_many(&files, form, out),
+        Order::TrustMany(files, form) => many::show::<trust::Line>(&files, form, out),
         Order::Writer(file) => whole(&file, |database| writer::show(database, out)),
         Order::Header(file) => header::show(&Database::read(&file)?, out),
         Order::Page(file, number, reading) => page::show(&Database::read(&file)?, number, reading, out),

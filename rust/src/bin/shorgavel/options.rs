@@ -1,6 +1,7 @@
 //! The words of the command by what they are: those that start with a dash are options, but for the dash alone.
 
 use crate::failure::Failure;
+use crate::form::Form;
 use shorgavel::Reading;
 use std::ffi::{OsStr, OsString};
 use std::os::unix::ffi::OsStrExt;
@@ -17,7 +18,7 @@ pub struct Words {
     pub output: Option<OsString>,
     pub notes: bool,
     pub parting: bool,
-    pub csv: bool,
+    pub form: Option<Form>,
 }
 
 impl Words {
@@ -53,17 +54,25 @@ impl Words {
             "--reading" => self.reading = Some(reading(value())?),
             "--table" => self.table = Some(root(value())?),
             "-o" | "--output" => self.output = Some(file(value())?),
-            "-h" | "--help" | "-V" | "--version" | "--notes" | "--parting" | "--csv" if !alone => {
+            "-h" | "--help" | "-V" | "--version" | "--notes" | "--parting" | "--csv" | "--json" if !alone => {
                 return Err(Failure::Usage(format!("{name} takes no value")));
             }
             "-h" | "--help" => self.said = Some(help()),
             "-V" | "--version" => self.said = Some(format!("shorgavel {}\n", env!("CARGO_PKG_VERSION"))),
             "--notes" => self.notes = true,
             "--parting" => self.parting = true,
-            "--csv" => self.csv = true,
+            "--csv" => self.written(Form::Csv)?,
+            "--json" => self.written(Form::Json)?,
             _ => return Err(Failure::Usage(format!("there is no option {name}"))),
         }
         Ok(())
+    }
+
+    fn written(&mut self, form: Form) -> Result<(), Failure> {
+        match self.form.replace(form) {
+            Some(before) if before != form => Err(Failure::Usage("--csv and --json do not go together".to_string())),
+            _ => Ok(()),
+        }
     }
 }
 

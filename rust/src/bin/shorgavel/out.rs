@@ -69,6 +69,12 @@ impl Out {
         self.buffer.extend(bytes.iter().flat_map(pair));
     }
 
+    /// What is not yet written.
+    #[cfg(test)]
+    pub fn kept(&self) -> &[u8] {
+        &self.buffer
+    }
+
     pub fn pass(&mut self) -> io::Result<()> {
         if self.buffer.len() < ENOUGH {
             return Ok(());

@@ -98,7 +98,7 @@ pub fn all_unread(rows: &[Unread]) -> Option<String> {
 }
 
 /// Characters that would steer a terminal or turn the direction of a line.
-fn hidden(character: char) -> bool {
+pub fn hidden(character: char) -> bool {
     character.is_control()
         || matches!(character, '\u{200e}' | '\u{200f}' | '\u{202a}'..='\u{202e}' | '\u{2066}'..='\u{2069}')
 }

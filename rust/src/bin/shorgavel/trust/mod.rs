@@ -1,16 +1,11 @@
 //! `trust`: of each table whether the printed sheets and the gauge say the same in all of its rows, and if not, which row is
 //! the first that parts. It is made to be printed and handed over.
 
-mod csv;
-mod files;
 mod line;
-mod many;
 mod parting;
-mod room;
 mod verdict;
-mod workers;
 
-pub use many::{show as show_many, Form};
+pub use line::Line;
 
 use crate::failure::Failure;
 use crate::folded;
