@@ -25,6 +25,7 @@ pub enum Order {
     Tables(OsString),
     Rows(OsString, Lines),
     Compare(OsString),
+    Summary(Vec<OsString>, Form),
     Sheet(OsString, Rows),
 }
 
@@ -42,7 +43,7 @@ impl Order {
     pub fn files(&self) -> &[OsString] {
         match self {
             Order::Say(_) => &[],
-            Order::TrustMany(files, _) => files,
+            Order::TrustMany(files, _) | Order::Summary(files, _) => files,
             Order::Trust(file) | Order::Writer(file) | Order::Header(file) | Order::Page(file, ..) => {
                 slice::from_ref(file)
             }
@@ -85,6 +86,10 @@ fn order(name: &str, words: &mut Words) -> Result<Order, Failure> {
                 Lines { readings, notes, table: words.table, form: words.form.unwrap_or_default() },
             )
         }
+        "compare" if words.summary => {
+            let first = next("FILE")?;
+            Order::Summary([first].into_iter().chain(plain.by_ref()).collect(), words.form.unwrap_or_default())
+        }
         "compare" => Order::Compare(next("FILE")?),
         "sheet" => Order::Sheet(next("FILE")?, if words.parting { Rows::Parting } else { Rows::All }),
         "help" => help(plain.next())?,
@@ -106,16 +111,20 @@ fn trust(first: OsString, more: impl Iterator<Item = OsString>, form: Option<For
 /// The first word or option for which the command has no use.
 fn unfit(name: &str, order: &Order, words: &Words) -> Option<Failure> {
     let rows = matches!(order, Order::Rows(..));
-    let listed = rows || matches!(order, Order::TrustMany(..));
+    let summary = matches!(order, Order::Summary(..));
+    let listed = rows || summary || matches!(order, Order::TrustMany(..));
     let options = [
         ("--reading", words.reading.is_some(), rows || matches!(order, Order::Page(..))),
         ("--table", words.table.is_some(), rows),
         ("--notes", words.notes, rows),
+        ("--summary", words.summary, summary),
         ("--csv", words.form == Some(Form::Csv), listed),
         ("--json", words.form == Some(Form::Json), listed),
         ("--parting", words.parting, matches!(order, Order::Sheet(..))),
     ];
-    let more = words.plain.first().map(|more| format!("{name}: {} is one word too many", more.to_string_lossy()));
+    let several = if matches!(order, Order::Compare(_)) { ": --summary takes several files" } else { "" };
+    let too_many = |more: &OsString| format!("{name}: {} is one word too many{several}", more.to_string_lossy());
+    let more = words.plain.first().map(too_many);
     let option = options.iter().find(|(_, given, taken)| *given && !taken);
     more.or_else(|| option.map(|(option, ..)| format!("{name} takes no {option}"))).map(wrong)
 }

@@ -85,6 +85,7 @@ fn show(order: Order, out: &mut Out) -> Result<(), Failure> {
         Order::Page(file, number, reading) => page::show(&Database::read(&file)?, number, reading, out),
         Order::Tables(file) => whole(&file, |database| tables::show(database, out)),
         Order::Rows(file, lines) => whole(&file, |database| lines::show(database, lines, out)),
+        Order::Summary(files, form) => many::show::<compare::Line>(&files, form, out),
         Order::Compare(file) => whole(&file, |database| compare::show(database, out)),
         Order::Sheet(file, rows) => whole(&file, |database| sheet::show(database, rows, out)),
     }

@@ -18,6 +18,7 @@ pub struct Words {
     pub output: Option<OsString>,
     pub notes: bool,
     pub parting: bool,
+    pub summary: bool,
     pub form: Option<Form>,
 }
 
@@ -54,13 +55,16 @@ impl Words {
             "--reading" => self.reading = Some(reading(value())?),
             "--table" => self.table = Some(root(value())?),
             "-o" | "--output" => self.output = Some(file(value())?),
-            "-h" | "--help" | "-V" | "--version" | "--notes" | "--parting" | "--csv" | "--json" if !alone => {
+            "-h" | "--help" | "-V" | "--version" | "--notes" | "--parting" | "--summary" | "--csv" | "--json"
+                if !alone =>
+            {
                 return Err(Failure::Usage(format!("{name} takes no value")));
             }
             "-h" | "--help" => self.said = Some(help()),
             "-V" | "--version" => self.said = Some(format!("shorgavel {}\n", env!("CARGO_PKG_VERSION"))),
             "--notes" => self.notes = true,
             "--parting" => self.parting = true,
+            "--summary" => self.summary = true,
             "--csv" => self.written(Form::Csv)?,
             "--json" => self.written(Form::Json)?,
             _ => return Err(Failure::Usage(format!("there is no option {name}"))),

@@ -1,6 +1,11 @@
 //! `compare`: only the rows of tables in which the readings part, with the reason in words; and below them those that both
 //! refuse, which part in nothing.
 
+mod compared;
+mod line;
+
+pub use line::Line;
+
 use crate::failure::Failure;
 use crate::input::Database;
 use crate::leaf::{Count, Leaf, Lent, Trio};
@@ -9,6 +14,7 @@ use crate::progress::Progress;
 use crate::reason;
 use crate::trees::{Trees, Work};
 use crate::words::{self, counted};
+use compared::Compared;
 use shorgavel::{Gauge, Reading, TextEncoding};
 use std::io::{self, Write};
 
@@ -28,7 +34,7 @@ pub fn show(database: &Database, out: &mut Out) -> Result<(), Failure> {
     let loose = sides.pages(trees.loose.iter().copied(), LOOSE, &mut progress, parting, out)?;
     drop(progress);
     sides.refused(&tables, &loose, out)?;
-    tables.unshown(out)?;
+    unshown(&tables, out)?;
     if loose.count.cells > 0 {
         let Count { cells, parted, refused } = loose.count;
         write!(out, "{cells} cells of no table, deleted or damaged, do not count: ")?;
@@ -62,34 +68,12 @@ impl Told {
         }
     }
 
-    /// What is said before a page's lines, where old refuses one of its cells.
+    /// What is said before the lines of a page that the original refuses.
     fn page(self, leaf: &Leaf<'_>) -> Option<String> {
         match self {
             Told::Parting(_) => reason::refused_whole(leaf),
             Told::Refused => None,
         }
-    }
-}
-
-/// What some pages hold, and on which of them are rows that old and file refuse.
-#[derive(Default)]
-struct Compared {
-    count: Count,
-    refusing: Vec<u32>,
-    /// How many pages the original refuses whole, and how many cells they have.
-    unshown: (usize, usize),
-}
-
-impl Compared {
-    /// What was on no tablet, whatever the old reading shows of it.
-    fn unshown(&self, out: &mut Out) -> io::Result<()> {
-        let (pages, cells) = self.unshown;
-        if pages == 0 {
-            return Ok(());
-        }
-        let are = if pages == 1 { "is" } else { "are" };
-        let (pages, cells) = (counted(pages, "page"), counted(cells, "cell"));
-        writeln!(out, "{pages} with {cells} {are} refused by the original: what old shows there was on no tablet")
     }
 }
 
@@ -106,21 +90,10 @@ impl Sides<'_> {
         let mut compared = Compared::default();
         for page in pages {
             progress.step();
-            let (leaf, known) = (Leaf::open(&self.gauge, page)?, compared.count.refused);
-            let (mut lines, mut old_refuses) = (Vec::new(), false);
-            compared.count.leaf(&leaf, &mut self.lent, |trio| {
-                old_refuses |= trio.old.is_err();
-                lines.extend(told.lines(trio));
-            });
-            let whole = if old_refuses { told.page(&leaf) } else { None };
-            if whole.is_some() {
-                compared.unshown.0 += 1;
-                compared.unshown.1 += leaf.len();
-            }
-            if compared.count.refused > known {
-                compared.refusing.push(page);
-            }
-            for line in whole.into_iter().chain(lines) {
+            let (leaf, mut lines) = (Leaf::open(&self.gauge, page)?, Vec::new());
+            let whole = compared.page(&leaf, &mut self.lent, |trio| lines.extend(told.lines(trio)));
+            let above = if whole { told.page(&leaf) } else { None };
+            for line in above.into_iter().chain(lines) {
                 out.text(before.as_bytes());
                 out.text(line.as_bytes());
                 out.text(b"\n");
@@ -143,6 +116,16 @@ impl Sides<'_> {
         self.pages(others.iter().copied(), LOOSE, &mut progress, Told::Refused, out)?;
         Ok(())
     }
+}
+
+/// What was on no tablet, whatever the old reading shows of it.
+fn unshown(tables: &Compared, out: &mut Out) -> io::Result<()> {
+    if tables.unshown_pages == 0 {
+        return Ok(());
+    }
+    let are = if tables.unshown_pages == 1 { "is" } else { "are" };
+    let (pages, cells) = (counted(tables.unshown_pages, "page"), counted(tables.unshown, "cell"));
+    writeln!(out, "{pages} with {cells} {are} refused by the original: what old shows there was on no tablet")
 }
 
 /// The tables that are not compared, and the rows of the schema that may name others.
