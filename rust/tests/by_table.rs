@@ -52,7 +52,7 @@ fn tables_tells_what_is_refused_and_what_tells_nothing() {
     // With no schema there is nothing to list.
     leaf(&mut bytes, 1, &[row(2, 2), row(1, 1)]);
     let output = fed(&["tables", "-"], &bytes);
-    assert_eq!((out(&output), status(&output)), ("", 1));
+    assert_eq!((out(&output), status(&output)), ("", 6));
     let said = "shorgavel: refused 27 (OutOfOrder) on page 1, cell 1: the row number or key is out of order\n";
     assert_eq!(err(&output), said);
 }
@@ -95,11 +95,11 @@ fn rows_of_a_table_that_is_refused() {
         ("9", "refused 8 9 0 0 0", "refused 8 (PageAbsent) on page 9: the page is not wholly in the bytes"),
     ] {
         let output = fed(&["rows", "-", "--table", root], &two_leaves());
-        assert_eq!((lines(&output)[1..].to_vec(), status(&output)), (vec![line], 1));
+        assert_eq!((lines(&output)[1..].to_vec(), status(&output)), (vec![line], 6));
         assert_eq!(err(&output), format!("shorgavel: {said}\n"));
     }
     let output = fed(&["rows", "-", "--table", "1"], b"");
-    assert_eq!((lines(&output)[1], status(&output)), ("refused 1", 1));
+    assert_eq!((lines(&output)[1], status(&output)), ("refused 1", 6));
 }
 
 #[test]
@@ -184,12 +184,12 @@ fn compare_is_not_content_where_a_table_is_refused() {
     assert_eq!(lines(&output)[0], refused);
     assert!(out(&output).ends_with("\n3 cells compared: 0 part, 0 are refused by old and file alike\n"));
     assert!(out(&output).contains("\n5 cells of no table, deleted or damaged, do not count: 1 part, "));
-    assert_eq!((err(&output), status(&output)), ("shorgavel: not all tables are compared\n", 1));
+    assert_eq!((err(&output), status(&output)), ("shorgavel: not all tables are compared\n", 6));
     // Nor where a row of the schema may name a table to which pages belong.
     let mut bytes = two_leaves();
     schema(&mut bytes, &[("tadle", "load", 2, "x")]);
     let output = fed(&["compare", "-"], &bytes);
-    assert_eq!((err(&output), status(&output)), ("shorgavel: not all tables are compared\n", 1));
+    assert_eq!((err(&output), status(&output)), ("shorgavel: not all tables are compared\n", 6));
     assert!(out(&output).starts_with("row 1 of the schema, page 1 cell 0, tells nothing: its type is no table"));
 }
 
@@ -202,7 +202,7 @@ fn a_page_is_of_one_table() {
     assert!(out(&output).contains("table two is not compared: page 3 is of a table before it as well\n"));
     assert!(out(&output).contains("table own is not compared: page 1 is of a table before it as well\n"));
     assert!(out(&output).ends_with("\n5 cells compared: 0 part, 0 are refused by old and file alike\n"));
-    assert_eq!(status(&output), 1);
+    assert_eq!(status(&output), 6);
 }
 
 #[test]

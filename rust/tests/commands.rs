@@ -16,7 +16,7 @@ fn rows_are_the_proved_programs_lines() {
     for name in shown.iter().chain(&refused) {
         let output = run(&[OsStr::new("rows"), kept(name, "stdin").as_os_str()]);
         assert!(output.stdout == fs::read(kept(name, "stdout")).unwrap(), "{name}");
-        assert_eq!(status(&output), i32::from(refused.contains(name)), "{name}");
+        assert_eq!(status(&output), 6 * i32::from(refused.contains(name)), "{name}");
     }
 }
 
@@ -25,7 +25,7 @@ fn rows_are_the_proved_programs_lines() {
 fn rows_reads_on_where_the_proved_program_stops() {
     assert!(fs::read_to_string(kept("rows_over", "stdout")).unwrap().ends_with("\nrefused 22\n"));
     let output = run(&[OsStr::new("rows"), kept("rows_over", "stdin").as_os_str()]);
-    assert_eq!((out(&output), status(&output)), ("page cell reading rowid values\nrefused 1\n", 1));
+    assert_eq!((out(&output), status(&output)), ("page cell reading rowid values\nrefused 1\n", 6));
 
     let mut bytes = fs::read(kept("rows_largest", "stdin")).unwrap();
     bytes.extend(vec![0; 65_536]);
@@ -39,10 +39,10 @@ fn over_the_limit_is_refused_unread() {
     let file = Kept::new("over_the_limit", b"");
     File::options().write(true).open(&file.0).unwrap().set_len(1_073_741_825).unwrap();
     let output = file.show(&["rows"]);
-    assert_eq!((out(&output), status(&output)), ("page cell reading rowid values\nrefused 22\n", 1));
+    assert_eq!((out(&output), status(&output)), ("page cell reading rowid values\nrefused 22\n", 6));
     for words in [&["trust"][..], &["writer"], &["header"], &["page", "1"], &["tables"], &["compare"], &["sheet"]] {
         let output = file.show(words);
-        assert_eq!((out(&output), status(&output)), ("", 1));
+        assert_eq!((out(&output), status(&output)), ("", 6));
         assert_eq!(err(&output), "shorgavel: refused 22 (OverLimit): there are over 1,073,741,824 bytes\n");
     }
 }
@@ -106,7 +106,7 @@ fn standard_input_is_a_dash() {
     let expected = "page cell reading rowid values\n1 0 file 1 i:1 i:16777216\n1 1 file 2 i:0 i:16777216\n";
     assert_eq!(out(&output), expected);
     let empty = fed(&["rows", "-"], b"");
-    assert_eq!((out(&empty), status(&empty)), ("page cell reading rowid values\nrefused 1\n", 1));
+    assert_eq!((out(&empty), status(&empty)), ("page cell reading rowid values\nrefused 1\n", 6));
     assert_eq!(
         err(&empty),
         "shorgavel: refused 1 (OpeningDiffers): the 16 opening bytes of a database are not there\n"
@@ -127,7 +127,7 @@ fn header_has_both_readings() {
 fn header_that_file_refuses_is_shown_as_old_has_it() {
     let output = run(&[OsStr::new("header"), kept("rows_refused", "stdin").as_os_str()]);
     assert!(out(&output).lines().nth(1).unwrap().ends_with("512    refused"));
-    assert_eq!(status(&output), 1);
+    assert_eq!(status(&output), 6);
     assert_eq!(out(&fed(&["header", "-"], b"")), "");
     assert_eq!(err(&output), "shorgavel: refused 7 (FractionsDiffer): the payload fractions are not 64, 32, 32\n");
 }
@@ -153,7 +153,7 @@ fn a_page_past_the_end_tells_which_there_are() {
         let output = fed(&[&["page", "-"], words].concat(), bytes);
         let said =
             format!("shorgavel: refused 8 (PageAbsent) on page {}: the page is not wholly in the bytes", words[0]);
-        assert_eq!((out(&output), status(&output)), ("", 1));
+        assert_eq!((out(&output), status(&output)), ("", 6));
         assert_eq!(err(&output), format!("{said}; {pages}\n"));
     };
     absent(&two_rows(), &["2"], "there is 1 page, 1");
@@ -171,7 +171,7 @@ fn a_page_past_the_end_tells_which_there_are() {
     absent(&bytes[..511], &["0", "--reading=old"], "no page is wholly there");
     // Another refusal of a page has nothing to do with how many there are.
     let index = fed(&["page", "-", "2", "--reading=guarded"], &[&two_rows()[..], &[0; 512]].concat());
-    assert!(status(&index) == 1 && !err(&index).contains("there "));
+    assert!(status(&index) == 6 && !err(&index).contains("there "));
 }
 
 #[test]

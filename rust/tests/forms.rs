@@ -99,10 +99,10 @@ fn long_notes_are_shown_where_they_are_asked_for() {
 fn what_is_refused_has_no_line() {
     for form in ["--csv", "--json"] {
         let output = fed(&["rows", "-", form], b"");
-        assert_eq!((out(&output), status(&output)), ("", 1));
+        assert_eq!((out(&output), status(&output)), ("", 6));
         assert!(err(&output).starts_with("shorgavel: refused 1 (OpeningDiffers)"));
         let output = fed(&["rows", "-", form, "--table=9"], &two_rows());
-        assert_eq!((out(&output), status(&output)), ("", 1));
+        assert_eq!((out(&output), status(&output)), ("", 6));
         let output = run(&["sheet", "x.db", form]);
         assert!(err(&output).starts_with(&format!("shorgavel: sheet takes no {form}; ")) && status(&output) == 2);
     }

@@ -131,7 +131,7 @@ fn links_to_folders_are_followed_only_where_they_are_named() {
     assert!(out(&named).starts_with("sub/link/below.db: parts") && out(&named).ends_with("\n1 file: 1 parts\n"));
 }
 
-/// Unread, cut, parting or refused, nothing compared, agreeing.
+/// Unread, cut, parting, refused, nothing compared, agreeing.
 #[test]
 fn the_status_is_the_worst() {
     let folder = of_all("worst");
@@ -139,8 +139,9 @@ fn the_status_is_the_worst() {
         (&["agrees.db", "agrees.db"][..], 0),
         (&["agrees.db", "empty.db"], 5),
         (&["empty.db", "parts.db", "agrees.db"], 1),
-        (&["short.db", "empty.db"], 1),
-        (&["damaged.db", "empty.db"], 1),
+        (&["short.db", "empty.db"], 6),
+        (&["damaged.db", "empty.db"], 6),
+        (&["short.db", "parts.db", "damaged.db"], 1),
         (&["cut.db", "parts.db", "empty.db"], 4),
         (&["none.db", "cut.db", "parts.db"], 3),
     ] {

@@ -176,7 +176,7 @@ fn trees_that_are_not_sound_are_told() {
     ];
     assert_eq!(tables[1..3], expected.map(|line| line.to_string()));
     assert_eq!(verdict, format!("{PLACES}1 of 2 tables agrees in all rows; 1 is damaged.\n"));
-    assert_eq!((err(&output), status(&output)), ("shorgavel: not all tables are compared\n", 1));
+    assert_eq!((err(&output), status(&output)), ("shorgavel: not all tables are compared\n", 6));
     // A page that is not there; one that two tables have; and a row that parts besides.
     interior(&mut bytes, 2, &[(4, 2)], 9);
     schema(&mut bytes, &[("table", "one", 3, "x"), ("table", "two", 3, "x"), ("table", "load", 2, "x")]);
@@ -199,7 +199,7 @@ fn a_schema_that_is_not_sound() {
     let (tables, verdict) = said(&output);
     assert!(tables[0].starts_with("damaged   sqlite_schema: its tree is not sound: on page 1, cell 1, the row"));
     assert_eq!(verdict, format!("{PLACES}Nothing was compared.\n"));
-    assert_eq!((err(&output), status(&output)), ("shorgavel: not all tables are compared\n", 1));
+    assert_eq!((err(&output), status(&output)), ("shorgavel: not all tables are compared\n", 6));
 }
 
 /// A row of the schema that tells nothing may name a table to which pages belong.
@@ -215,7 +215,7 @@ fn rows_of_the_schema_that_tell_nothing() {
     ];
     let verdict = "Every row that was compared agrees, 1 row, but that is not all of the file.\n";
     assert_eq!(said(&output), (expected.to_vec(), verdict));
-    assert_eq!((err(&output), status(&output)), ("shorgavel: not all tables are compared\n", 1));
+    assert_eq!((err(&output), status(&output)), ("shorgavel: not all tables are compared\n", 6));
     // Two of them, on the one page that there is: all is compared.
     let mut bytes = two_rows();
     bytes[506] = 8;
@@ -244,7 +244,7 @@ fn nothing_is_said_to_agree_over_no_rows() {
     assert_eq!(status(&output), 0);
     // No database at all.
     let output = fed(&["trust", "-"], b"");
-    assert_eq!((out(&output), status(&output)), ("", 1));
+    assert_eq!((out(&output), status(&output)), ("", 6));
     assert!(err(&output).starts_with("shorgavel: refused 1 (OpeningDiffers)"));
 }
 

@@ -107,11 +107,11 @@ fn a_file_is_left_as_it_was_where_there_is_nothing_to_show() {
     let folder = with_gauge("nothing");
     fs::write(folder.0.join("out.txt"), "before").unwrap();
     fs::write(folder.0.join("none.db"), "").unwrap();
-    for (words, ended) in [(["trust", "none.db"], 1), (["rows", "no such file"], 3)] {
+    for (words, ended) in [(["trust", "none.db"], 6), (["rows", "no such file"], 3)] {
         let output = folder.run(&[&words[..], &["-o", "out.txt"]].concat());
         assert_eq!((status(&output), folder.text("out.txt").as_str(), folder.files()), (ended, "before", 3));
     }
-    assert_eq!(status(&folder.run(&["rows", "none.db", "-o", "out.txt"])), 1);
+    assert_eq!(status(&folder.run(&["rows", "none.db", "-o", "out.txt"])), 6);
     assert_eq!(folder.text("out.txt"), "page cell reading rowid values\nrefused 1\n");
 }
 

@@ -152,7 +152,7 @@ fn nothing_is_said_where_nothing_was_asked() {
     assert_eq!((said(&output).1, status(&output)), (none, 5));
     // No database at all.
     let output = fed(&["writer", "-"], b"");
-    assert_eq!((out(&output), status(&output)), ("", 1));
+    assert_eq!((out(&output), status(&output)), ("", 6));
     assert!(err(&output).starts_with("shorgavel: refused 1 (OpeningDiffers)"));
 }
 
@@ -164,7 +164,7 @@ fn trees_that_are_not_sound_are_not_asked() {
     assert!(tables[1].starts_with("damaged   load: not asked, refused 27 (OutOfOrder) on page 2, cell 1: the row"));
     assert!(tables[3].starts_with("no table  2 rows, "), "{tables:?}");
     assert!(verdict.starts_with("Every row that was asked, 1 row, could") && verdict.ends_with("not all of the file."));
-    assert_eq!((err(&output), status(&output)), ("shorgavel: not all tables are asked\n", 1));
+    assert_eq!((err(&output), status(&output)), ("shorgavel: not all tables are asked\n", 6));
     // What something else wrote is told, whatever is damaged besides.
     schema(&mut bytes, &[("table", "load", 2, "x"), ("table", "more", 2, "x")]);
     raw_leaf(&mut bytes, 2, &[LONG_FIVE, SIX]);

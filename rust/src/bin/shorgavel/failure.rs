@@ -62,12 +62,13 @@ impl Failure {
 
     pub fn status(&self) -> u8 {
         match self {
-            Failure::Refused(_) | Failure::Absent(..) | Failure::Found | Failure::Partial(_) => 1,
+            Failure::Found => 1,
             Failure::Usage(_) => 2,
             Failure::Unwritten(_) if self.is_broken_pipe() => 0,
             Failure::Unread(..) | Failure::Unwritten(_) | Failure::UnwrittenFile(..) => 3,
             Failure::Cut(_) => 4,
             Failure::Nothing(_) | Failure::Bare(_) => 5,
+            Failure::Refused(_) | Failure::Absent(..) | Failure::Partial(_) => 6,
             Failure::Listed(status) => *status,
         }
     }

@@ -125,9 +125,9 @@ fn put<L: Line>(line: &L, form: Form, width: usize, out: &mut Out) -> io::Result
     Ok(())
 }
 
-/// Which status is worse: what was not seen at all is, then what was seen in part.
+/// Which status is worse: what was not seen at all is, then what was seen in part, then what was found.
 fn rank(status: &u8) -> Option<usize> {
-    [0, 5, 1, 4, 3].iter().position(|known| known == status)
+    [0, 5, 6, 1, 4, 3].iter().position(|known| known == status)
 }
 
 fn total(files: usize, counts: &[usize]) -> String {
