@@ -64,24 +64,28 @@ impl<'a> Cell<'a> {
     ///
     /// Of an index cell, what the old reading takes for one, and 0 in the file reading.
     #[inline]
+    #[must_use]
     pub fn rowid(&self) -> i64 {
         self.rowid
     }
 
     /// How many columns the record has.
     #[inline]
+    #[must_use]
     pub fn columns(&self) -> usize {
         self.table.values().len()
     }
 
     /// The values, one after the other. Texts and blobs in them are the caller's bytes or the notes', and outlive the cell.
     #[inline]
+    #[must_use]
     pub fn values(&self) -> Values<'_, 'a> {
         Values::of(self.bytes, self.table.values())
     }
 
     /// The value of one column, if there is such a column.
     #[inline]
+    #[must_use]
     pub fn value(&self, column: usize) -> Option<Value<'a>> {
         self.values().nth(column)
     }
@@ -114,6 +118,7 @@ impl<'a> Cell<'a> {
     /// }
     /// # Ok::<(), shorgavel::Refusal>(())
     /// ```
+    #[must_use]
     pub fn shortest(&self) -> Option<bool> {
         let Site { reading, gathered, page, cell } = self.site;
         if gathered {

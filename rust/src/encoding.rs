@@ -22,6 +22,7 @@ impl TextEncoding {
     }
 
     /// The number in the header.
+    #[must_use]
     pub fn number(self) -> u32 {
         match self {
             TextEncoding::Utf8 => 1,

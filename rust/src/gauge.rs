@@ -25,11 +25,15 @@ impl<'a> Gauge<'a> {
     pub const LIMIT: u64 = 1_073_741_824;
 
     /// A database of these bytes. What they are is checked by the calls.
+    #[must_use]
     pub fn new(bytes: &'a [u8]) -> Gauge<'a> {
         Gauge { bytes: Bytes(bytes) }
     }
 
     /// Whether a database of that many bytes is read. It can be asked before the bytes are there.
+    ///
+    /// # Errors
+    /// 22, where it is not.
     pub fn within_limit(length: u64) -> Result<(), Refusal> {
         if length <= Self::LIMIT {
             Ok(())
@@ -39,6 +43,9 @@ impl<'a> Gauge<'a> {
     }
 
     /// The header's fields, or the first check that fails. The guarded reading has the file reading's.
+    ///
+    /// # Errors
+    /// 22, then 1 to 3; of the file reading and the guarded one 4 to 7, too.
     pub fn header(&self, reading: Reading) -> Result<DbHeader, Refusal> {
         let answer = calls::header(self.bytes.0, reading.number());
         Refusal::check(&answer.refused)?;
@@ -47,6 +54,9 @@ impl<'a> Gauge<'a> {
 
     /// How many pages there are, and how many of them are wholly in the bytes. The old reading counts whole pages; the other two
     /// take the size that the header states, where it was written with the last change.
+    ///
+    /// # Errors
+    /// Those of [`Gauge::header`].
     pub fn page_count(&self, reading: Reading) -> Result<PageCount, Refusal> {
         let answer = calls::pages(self.bytes.0, reading.number());
         Refusal::check(&answer.refused)?;
@@ -55,12 +65,18 @@ impl<'a> Gauge<'a> {
     }
 
     /// The numbers of the pages that are wholly in the bytes, as the reading counts.
+    ///
+    /// # Errors
+    /// Those of [`Gauge::header`].
     pub fn pages(&self, reading: Reading) -> Result<Range<u32>, Refusal> {
         let first = reading.first_page();
         Ok(first..first + self.page_count(reading)?.present)
     }
 
     /// Opens a page by its number, as the reading counts. The guarded reading opens table leaves only.
+    ///
+    /// # Errors
+    /// Those of [`Gauge::header`]; then 8 where the page is not there, 9, 10 where it is of no kind that the reading opens, and 11.
     pub fn get_page(&self, reading: Reading, pageno: u32) -> Result<Page<'a>, Refusal> {
         Page::open(self.bytes, reading, pageno)
     }
@@ -73,16 +89,26 @@ impl<'a> Gauge<'a> {
     }
 
     /// The table leaves in the order of the file: the pages of kind 13 that the file reading opens.
+    ///
+    /// # Errors
+    /// Those of [`Gauge::header`] in the file reading. A row that is refused ends nothing: it is told in its place.
     pub fn leaves(&self, reading: Reading) -> Result<Leaves<'a>, Refusal> {
         Ok(Leaves::of(*self, reading, self.pages(Reading::File)?))
     }
 
     /// Every cell of every table leaf, in the order of the file: what the program `rows` lists.
+    ///
+    /// # Errors
+    /// Those of [`Gauge::leaves`].
     pub fn rows(&self, reading: Reading) -> Result<Rows<'a>, Refusal> {
         Ok(Rows::of(self.leaves(reading)?))
     }
 
     /// All rows of the table at a root page, which counts from 1: the rows alone, in the rising order of their numbers.
+    ///
+    /// # Errors
+    /// Where the tree is not sound: those of [`Gauge::header`] in the file reading, then of a page 28, 26, 8, 10, 11 or 25, or of a cell 12, 13
+    /// or 27, with its place.
     pub fn table(&self, root: u32) -> Result<Table<'a>, Refusal> {
         Table::walked(self.bytes, root)
     }
@@ -119,11 +145,17 @@ impl<'a> Gauge<'a> {
     /// assert_eq!((refusal.page(), refusal.cell(), refusal.mark()), (Some(1), Some(1), Some(Mark::TypeNine)));
     /// # Ok::<(), shorgavel::Refusal>(())
     /// ```
+    ///
+    /// # Errors
+    /// Those of [`Gauge::table`], then what the guarded reading refuses the first row with.
     pub fn trusted(&self, root: u32) -> Result<Table<'a>, Refusal> {
         Table::trusted(self.bytes, root)
     }
 
     /// How many rows the table at a root page has: the same walk, with no list made of them.
+    ///
+    /// # Errors
+    /// Those of [`Gauge::table`].
     pub fn count_rows(&self, root: u32) -> Result<usize, Refusal> {
         let answer = calls::table_count(self.bytes.0, root);
         Refusal::check(&answer.refused)?;
@@ -131,11 +163,17 @@ impl<'a> Gauge<'a> {
     }
 
     /// The tables that the database names, with their root pages: what its own table, at root 1, lists.
+    ///
+    /// # Errors
+    /// Those of [`Gauge::table`] at root 1. A row that tells nothing ends nothing: it is in [`Schema::unread`].
     pub fn schema(&self) -> Result<Schema, Refusal> {
         Schema::of(*self)
     }
 
     /// One value: column `column` of cell `cell`. Where several are asked for, a [`Cell`](crate::Cell) is quicker.
+    ///
+    /// # Errors
+    /// Those of [`Gauge::get_page`], of [`Page::cell`], and 20 where there is no such column.
     pub fn value(&self, reading: Reading, pageno: u32, cell: usize, column: usize) -> Result<Value<'a>, Refusal> {
         let shown = match reading {
             Reading::Old => calls::old_value(self.bytes.0, pageno, cell, column),
@@ -148,6 +186,9 @@ impl<'a> Gauge<'a> {
 
     /// One value, and one of a long note too: what [`Gauge::value`] refuses with 18 is put together in the notes, and the
     /// value borrows them.
+    ///
+    /// # Errors
+    /// Those of [`Gauge::get_page`], of [`Page::cell_with`], and 20 where there is no such column.
     pub fn value_with<'n>(
         &self,
         reading: Reading,

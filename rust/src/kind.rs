@@ -25,6 +25,7 @@ impl Kind {
     }
 
     /// The byte that the page starts with.
+    #[must_use]
     pub fn number(self) -> u8 {
         match self {
             Kind::InteriorIndex => 2,
@@ -35,11 +36,13 @@ impl Kind {
     }
 
     /// Whether the page has children.
+    #[must_use]
     pub fn is_interior(self) -> bool {
         matches!(self, Kind::InteriorIndex | Kind::InteriorTable)
     }
 
     /// Whether the page is of an index.
+    #[must_use]
     pub fn is_index(self) -> bool {
         matches!(self, Kind::InteriorIndex | Kind::LeafIndex)
     }

@@ -38,6 +38,7 @@
 
 #![deny(unsafe_code)]
 #![warn(missing_docs)]
+#![warn(clippy::must_use_candidate, clippy::missing_errors_doc)]
 
 mod bytes;
 #[allow(unsafe_code)]
@@ -74,7 +75,7 @@ pub use mark::Mark;
 pub use notes::Notes;
 pub use page::Page;
 pub use place::Place;
-pub use reading::Reading;
+pub use reading::{NoSuchReading, Reading};
 pub use refusal::Refusal;
 pub use rows::{Leaves, Row, Rows};
 pub use schema::{Named, Root, Schema, Unread, Unreadable};

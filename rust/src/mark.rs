@@ -31,6 +31,7 @@ impl Mark {
     }
 
     /// Its number, from 1 to 5.
+    #[must_use]
     pub fn number(self) -> u8 {
         match self {
             Mark::LongVarint => 1,
@@ -42,6 +43,7 @@ impl Mark {
     }
 
     /// What stands in the record.
+    #[must_use]
     pub fn meaning(self) -> &'static str {
         match self {
             Mark::LongVarint => "a varint of over five bytes",

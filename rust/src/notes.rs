@@ -65,6 +65,7 @@ pub struct Notes {
 
 impl Notes {
     /// With no room yet: there is none until a payload spills.
+    #[must_use]
     pub const fn new() -> Notes {
         Notes { buffer: Vec::new(), spilled: false }
     }

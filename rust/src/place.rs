@@ -16,6 +16,7 @@ impl Place {
 
     /// The page's number, from 1 on.
     #[inline]
+    #[must_use]
     pub fn page(&self) -> u32 {
         // It is proved that the page lies in the file: its number has 32 bits.
         self.page as u32
@@ -23,12 +24,14 @@ impl Place {
 
     /// The cell's number on the page, from 0 on.
     #[inline]
+    #[must_use]
     pub fn cell(&self) -> usize {
         self.cell as usize
     }
 
     /// The row number.
     #[inline]
+    #[must_use]
     pub fn rowid(&self) -> i64 {
         self.row
     }

@@ -1,4 +1,6 @@
+use std::error::Error;
 use std::fmt;
+use std::str::FromStr;
 
 /// Which of the three readings shows a database.
 #[derive(Clone, Copy, Debug, PartialEq, Eq, Hash)]
@@ -16,6 +18,7 @@ impl Reading {
     pub const ALL: [Reading; 3] = [Reading::Old, Reading::File, Reading::Guarded];
 
     /// The name: `old`, `file` or `guarded`.
+    #[must_use]
     pub fn name(self) -> &'static str {
         match self {
             Reading::Old => "old",
@@ -25,6 +28,7 @@ impl Reading {
     }
 
     /// The number of the first page.
+    #[must_use]
     pub fn first_page(self) -> u32 {
         match self {
             Reading::Old => 0,
@@ -48,3 +52,24 @@ impl fmt::Display for Reading {
         f.write_str(self.name())
     }
 }
+
+/// By its name alone: `old`, `file` or `guarded`.
+impl FromStr for Reading {
+    type Err = NoSuchReading;
+
+    fn from_str(name: &str) -> Result<Reading, NoSuchReading> {
+        Reading::ALL.into_iter().find(|reading| reading.name() == name).ok_or(NoSuchReading(()))
+    }
+}
+
+/// No reading has that name.
+#[derive(Clone, Copy, Debug, PartialEq, Eq)]
+pub struct NoSuchReading(());
+
+impl fmt::Display for NoSuchReading {
+    fn fmt(&self, f: &mut fmt::Formatter<'_>) -> fmt::Result {
+        f.write_str("the readings are old, file and guarded")
+    }
+}
+
+impl Error for NoSuchReading {}

@@ -72,6 +72,7 @@ impl Refusal {
     }
 
     /// The number, as the table of refusals in `docs/READINGS.md` has it.
+    #[must_use]
     pub fn number(self) -> u8 {
         self.number as u8
     }
@@ -82,31 +83,37 @@ impl Refusal {
     }
 
     /// The number's name.
+    #[must_use]
     pub fn name(self) -> &'static str {
         self.reason().0
     }
 
     /// What the number means, in words.
+    #[must_use]
     pub fn meaning(self) -> &'static str {
         self.reason().1
     }
 
     /// The page, as the reading counts it that refuses: for all but 1 to 7 and 22, which are of the database.
+    #[must_use]
     pub fn page(self) -> Option<u32> {
         (!matches!(self.number, 1..=7 | 22)).then_some(self.page as u32)
     }
 
     /// The cell that is refused, where one is: for 12 to 18, 21, 23, 24 and 27.
+    #[must_use]
     pub fn cell(self) -> Option<usize> {
         matches!(self.number, 12..=18 | 21 | 23 | 24 | 27).then_some(self.cell)
     }
 
     /// The column that is refused, where one is: for 15 and 16.
+    #[must_use]
     pub fn column(self) -> Option<usize> {
         matches!(self.number, 15 | 16).then_some(self.column)
     }
 
     /// The mark for which a row is refused, where it is one: for 21.
+    #[must_use]
     pub fn mark(self) -> Option<Mark> {
         Mark::of(self.mark as u8)
     }

@@ -86,6 +86,7 @@ impl Schema {
     }
 
     /// The table of that name. As in SQL, letters of the alphabet count as the same whether large or small.
+    #[must_use]
     pub fn table(&self, name: &str) -> Option<&Named> {
         self.tables.iter().find(|table| table.name.eq_ignore_ascii_case(name))
     }
@@ -93,6 +94,7 @@ impl Schema {
 
 impl Named {
     /// The schema's own table, which no row names.
+    #[must_use]
     pub fn schema() -> Named {
         Named { name: "sqlite_schema".to_string(), root: Root::Numbered(Schema::ROOT), sql: None }
     }
@@ -124,6 +126,7 @@ impl Named {
 
 impl Root {
     /// The number of the root page, if there is one. What it leads to, [`Gauge::table`] tells.
+    #[must_use]
     pub fn page(self) -> Option<u32> {
         match self {
             Root::Numbered(page) | Root::Keyed(page) => Some(page),

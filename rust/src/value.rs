@@ -1,4 +1,5 @@
 use crate::calls;
+use std::fmt;
 
 /// A value of a column. The bytes of a text or a blob are the caller's: nothing is copied, but for a payload that spills,
 /// whose bytes are those of the [`Notes`](crate::Notes) that were lent.
@@ -31,11 +32,13 @@ impl<'a> Value<'a> {
     }
 
     /// Whether it is null.
+    #[must_use]
     pub fn is_null(&self) -> bool {
         matches!(self, Value::Null)
     }
 
     /// The integer, if it is one.
+    #[must_use]
     pub fn integer(&self) -> Option<i64> {
         match *self {
             Value::Integer(z) => Some(z),
@@ -44,6 +47,7 @@ impl<'a> Value<'a> {
     }
 
     /// The real, if it is one. SQLite stores a whole number of a REAL column as an integer: [`Value::number`] takes both.
+    #[must_use]
     pub fn real(&self) -> Option<f64> {
         match *self {
             Value::Real(x) => Some(x),
@@ -52,6 +56,7 @@ impl<'a> Value<'a> {
     }
 
     /// The integer or the real as a number.
+    #[must_use]
     pub fn number(&self) -> Option<f64> {
         match *self {
             Value::Integer(z) => Some(z as f64),
@@ -61,6 +66,7 @@ impl<'a> Value<'a> {
     }
 
     /// The text, if it is one and its bytes are UTF-8, as they are in a database whose encoding is UTF-8.
+    #[must_use]
     pub fn text(&self) -> Option<&'a str> {
         match *self {
             Value::Text(bytes) => std::str::from_utf8(bytes).ok(),
@@ -69,6 +75,7 @@ impl<'a> Value<'a> {
     }
 
     /// The bytes of a text or a blob.
+    #[must_use]
     pub fn bytes(&self) -> Option<&'a [u8]> {
         match *self {
             Value::Text(bytes) | Value::Blob(bytes) => Some(bytes),
@@ -97,6 +104,38 @@ impl PartialEq for Value<'_> {
 }
 
 impl Eq for Value<'_> {}
+
+/// As SQL has it: `null`, `42`, `1.5`, `'text'` with each quote twice, `x'00ff'`. A text whose bytes are not UTF-8, as in a database
+/// of another encoding, is shown as its bytes, and a real that is no number by its bits: `nan(7ff8000000000000)`.
+///
+/// ```
+/// use shorgavel::Value;
+///
+/// assert_eq!(Value::Text(b"it's").to_string(), "'it''s'");
+/// assert_eq!(Value::Real(44.0).to_string(), "44.0");
+/// assert_eq!(Value::Blob(&[0, 255]).to_string(), "x'00ff'");
+/// ```
+impl fmt::Display for Value<'_> {
+    fn fmt(&self, f: &mut fmt::Formatter<'_>) -> fmt::Result {
+        match *self {
+            Value::Null => f.write_str("null"),
+            Value::Integer(z) => z.fmt(f),
+            Value::Real(x) if x.is_nan() => write!(f, "nan({:016x})", x.to_bits()),
+            Value::Real(x) => write!(f, "{x:?}"),
+            Value::Text(bytes) => match std::str::from_utf8(bytes) {
+                Ok(text) => write!(f, "'{}'", text.replace('\'', "''")),
+                Err(_) => hex(f, bytes),
+            },
+            Value::Blob(bytes) => hex(f, bytes),
+        }
+    }
+}
+
+fn hex(f: &mut fmt::Formatter<'_>, bytes: &[u8]) -> fmt::Result {
+    f.write_str("x'")?;
+    bytes.iter().try_for_each(|byte| write!(f, "{byte:02x}"))?;
+    f.write_str("'")
+}
 
 /// The type that the original has for an integer of the old reading: the name of a `Payload` there.
 #[derive(Clone, Copy, Debug, PartialEq, Eq, Hash)]

@@ -62,26 +62,31 @@ impl<'a> Table<'a> {
     }
 
     /// The number of its root page.
+    #[must_use]
     pub fn root(&self) -> u32 {
         self.root
     }
 
     /// How many rows it has.
+    #[must_use]
     pub fn len(&self) -> usize {
         self.places.len()
     }
 
     /// Whether it has no row.
+    #[must_use]
     pub fn is_empty(&self) -> bool {
         self.places.is_empty()
     }
 
     /// Where each row stands, and its number, in rising order of the numbers.
+    #[must_use]
     pub fn places(&self) -> &[Place] {
         &self.places
     }
 
     /// The rows in the same order, each shown or refused by itself.
+    #[must_use]
     pub fn rows(&self, reading: Reading) -> TableRows<'_, 'a> {
         TableRows { bytes: self.bytes, reading, left: self.places.iter(), open: None }
     }

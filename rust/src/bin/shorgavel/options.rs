@@ -93,8 +93,7 @@ fn parts(arg: &OsStr) -> (String, Option<OsString>) {
 }
 
 fn reading(word: Option<OsString>) -> Result<Reading, Failure> {
-    let named = |reading: &Reading| word.as_deref() == Some(OsStr::new(reading.name()));
-    let found = Reading::ALL.into_iter().find(named);
+    let found = word.as_deref().and_then(OsStr::to_str).and_then(|name| name.parse().ok());
     found.ok_or_else(|| Failure::Usage("--reading takes old, file or guarded".to_string()))
 }
 
