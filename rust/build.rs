@@ -46,8 +46,8 @@ fn proved() -> PathBuf {
 fn prove(root: &Path) -> PathBuf {
     match Command::new(root.join("bin/prove")).arg("library").stderr(heard()).output() {
         Err(error) => fail(&format!(
-            "bin/prove of the repository, which proves the readers, does not run ({error}). Let {VARIABLE} name a folder that \
-             has {ARCHIVE}"
+            "bin/prove of the repository, which proves the readers, does not run ({error}). Let {VARIABLE} name a folder \
+             that has {ARCHIVE}"
         )),
         Ok(said) if !said.status.success() => fail("the readers are not proved, and are not linked"),
         Ok(said) => PathBuf::from(String::from_utf8_lossy(&said.stdout).trim_end()),

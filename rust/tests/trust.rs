@@ -104,7 +104,8 @@ fn values_that_part_are_named_with_their_column() {
 fn rows_of_which_old_shows_others() {
     let long = "The list of its types is so long that the old reading takes its length wrong.";
     let sheet = "The sheet cannot show it: the value passes the end, or bytes are left over behind the";
-    assert_eq!(of_row_2(&[0x80, 3, 1, 5]), [long, sheet, "last.", "The gauge wrote row 2: 5"]);
+    let none = "No sheet has any row of page 4: the tablets' reader refuses it whole for cell 1 (16).";
+    assert_eq!(of_row_2(&[0x80, 3, 1, 5]), [long, sheet, "last.", "The gauge wrote row 2: 5", none]);
     // Where the byte that old takes for a type has no end, both show no column; guarded refuses it all the same.
     let mut bytes = pages(2);
     schema(&mut bytes, &[("table", "load", 2, "")]);
@@ -134,7 +135,23 @@ fn damaged_rows_are_told() {
     let left = "As it stands in the file it is damaged: the value passes the end, or bytes are left over";
     assert_eq!(of_row_2(&[2, 8, 0]), [left, "behind the last (16).", "The sheet shows row 2: 0"]);
     let reserved = "As it stands in the file it is damaged: the type is 10 or 11, which are reserved (15).";
-    assert_eq!(of_row_2(&[2, 10]), [reserved, "The sheet cannot show it either."]);
+    let none = "No sheet has any row of page 4: the tablets' reader refuses it whole for cell 1 (15).";
+    assert_eq!(of_row_2(&[2, 10]), [reserved, "The sheet cannot show it either.", none]);
+}
+
+/// Cell 1 is refused by both, so that no tablet showed cell 0 either: what a sheet would show of it was on none.
+#[test]
+fn rows_of_pages_that_no_tablet_showed() {
+    let mut bytes = two_leaves();
+    leaf(&mut bytes, 4, &[(1, vec![2, 9]), (2, vec![2, 10])]);
+    let output = trust(&bytes);
+    let expected = [
+        "parts     load: 4 rows; the first that parts is row 1 (page 4, cell 0)",
+        "          Column 0 is a stored 1, which the old reading takes for 0: the sheet would show 0, the",
+        "          gauge wrote 1",
+        "          No sheet has any row of page 4: the tablets' reader refuses it whole for cell 1 (15).",
+    ];
+    assert_eq!(said(&output).0[1..5], expected);
 }
 
 /// Row 4 alone is shown by old, with other bytes of the page; row 1 is not.

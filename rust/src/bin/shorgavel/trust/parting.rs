@@ -25,8 +25,20 @@ pub fn put(
     if let Some(mark) = mark.filter(|mark| *mark == Mark::Spills || !names_columns(&trio)) {
         folded::put(out, "", why(mark));
     }
-    statements(&trio, encoding).iter().for_each(|statement| folded::put(out, "", statement));
+    let whole = leaf.refused_whole();
+    // What stands on a page that no tablet showed, a sheet would only have shown of the row alone.
+    let sheet = if whole.is_some() { "sheet would show" } else { "sheet shows" };
+    statements(&trio, sheet, encoding).iter().for_each(|statement| folded::put(out, "", statement));
+    if let Some(refusal) = whole {
+        folded::put(out, "", &on_no_sheet(place.page(), refusal));
+    }
     Ok(())
+}
+
+/// The original answers a page whole or not at all.
+fn on_no_sheet(page: u32, refusal: Refusal) -> String {
+    let cell = refusal.cell().map_or(String::new(), |cell| format!(" for cell {cell}"));
+    format!("No sheet has any row of page {page}: the tablets' reader refuses it whole{cell} ({}).", refusal.number())
 }
 
 /// Whether what the old reading is not made for is told with a column.
@@ -39,16 +51,16 @@ fn names_columns(trio: &Trio<'_>) -> bool {
     }
 }
 
-fn statements(trio: &Trio<'_>, encoding: TextEncoding) -> Vec<String> {
+fn statements(trio: &Trio<'_>, sheet: &str, encoding: TextEncoding) -> Vec<String> {
     match trio.standing() {
         // Guarded refused it, and does so with notes lent too.
         Standing::Agree => Vec::new(),
-        Standing::Differ(old, file, guarded) => differ(old, file, guarded.mark(), encoding),
+        Standing::Differ(old, file, guarded) => differ(old, file, guarded.mark(), sheet, encoding),
         Standing::OldRefuses(old, file, _) => {
-            let sheet = format!("The sheet cannot show it: {}.", old.meaning());
-            vec![sheet, row("The gauge wrote", file, encoding)]
+            let cannot = format!("The sheet cannot show it: {}.", old.meaning());
+            vec![cannot, row("The gauge wrote", file, encoding)]
         }
-        Standing::FileRefuses(old, file) => vec![damaged(file), row("The sheet shows", old, encoding)],
+        Standing::FileRefuses(old, file) => vec![damaged(file), row(&format!("The {sheet}"), old, encoding)],
         Standing::Refused => {
             let neither = "The sheet cannot show it either.".to_string();
             trio.file.as_ref().err().map(|file| damaged(*file)).into_iter().chain([neither]).collect()
@@ -56,15 +68,15 @@ fn statements(trio: &Trio<'_>, encoding: TextEncoding) -> Vec<String> {
     }
 }
 
-fn differ(old: &Cell<'_>, file: &Cell<'_>, mark: Option<Mark>, encoding: TextEncoding) -> Vec<String> {
+fn differ(old: &Cell<'_>, file: &Cell<'_>, mark: Option<Mark>, sheet: &str, encoding: TextEncoding) -> Vec<String> {
     if !reason::are_alike(old, file) {
-        return vec![row("The sheet shows", old, encoding), row("The gauge wrote", file, encoding)];
+        return vec![row(&format!("The {sheet}"), old, encoding), row("The gauge wrote", file, encoding)];
     }
     let mut differing = reason::differing(old, file);
     let Some((column, shown, wrote)) = differing.next() else {
         return vec!["Here both show the same, but of such a row that is not certain.".to_string()];
     };
-    let mut first = format!("Column {column} {}: the sheet shows ", cause(mark, wrote));
+    let mut first = format!("Column {column} {}: the {sheet} ", cause(mark, wrote));
     words::value(&mut first, shown, encoding);
     first.push_str(", the gauge wrote ");
     words::value(&mut first, wrote, encoding);
