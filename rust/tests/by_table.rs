@@ -1,5 +1,5 @@
-//! The command `shorgavel` by tables: `tables`, `rows --table`, and how `compare` and `sheet` go table by table. What it says of
-//! files that are cut or have a log beside them.
+//! The command `shorgavel` by tables: `tables`, `rows --table`, and how `compare` goes table by table. What it says of files
+//! that are cut or have a log beside them.
 
 mod common;
 
@@ -211,56 +211,6 @@ fn nothing_is_agreed_on_over_no_rows() {
     let nothing = "0 cells compared: 0 part, 0 are refused by old and file alike\n";
     assert_eq!((out(&output), status(&output)), (nothing, 5));
     assert_eq!(err(&output), "shorgavel: there is no row to compare\n");
-    let sheet = fed(&["sheet", "-"], &pages(2));
-    assert!(out(&sheet).contains("There is no row of a table to compare.") && !out(&sheet).contains("agree on"));
-    assert_eq!(status(&sheet), 0);
-}
-
-#[test]
-fn sheet_has_a_heading_for_each_table() {
-    let output = fed(&["sheet", "-"], &two_leaves());
-    let page = out(&output);
-    let headings: Vec<_> = page.lines().filter(|line| line.starts_with("<h2>")).collect();
-    let expected = [
-        "<h2>sqlite_schema <small>root page 1, 3 rows</small></h2>",
-        "<h2>load <small>root page 2, 4 rows, <span class=\"d\">1 part</span></small></h2>",
-        "<h2>keyed <small>root page 6</small></h2>",
-        "<h2>far <small>no root page</small></h2>",
-        "<h2>Pages of no table: deleted or damaged <small>1 page, 1 row, <span class=\"d\">1 part</span></small></h2>",
-    ];
-    assert_eq!(headings, expected);
-    assert!(page.contains("<pre>CREATE TABLE load(idle)\n</pre>"));
-    assert!(page.contains("Not compared: it has no row numbers") && page.contains("Not compared: it is virtual"));
-    // Pages come in walk order, and rows of no table do not count.
-    let order: Vec<_> = page.split("<caption><b>Page ").skip(1).map(|part| &part[..1]).collect();
-    assert_eq!(order, ["1", "4", "3", "5"]);
-    assert!(page.contains("The readings part on 1 of 7 rows"));
-    assert!(page.contains("<dt>Rows of no table</dt><dd>1</dd>"));
-    let parting = fed(&["sheet", "-", "--parting"], &two_leaves());
-    assert_eq!(out(&parting).matches("<tr class=p>").count(), 2);
-    assert_eq!(out(&parting).matches("<table").count(), 2);
-}
-
-#[test]
-fn sheet_tells_a_table_that_is_refused() {
-    let mut bytes = two_leaves();
-    leaf(&mut bytes, 4, &[row(1, 10), row(2, 11)]);
-    interior(&mut bytes, 2, &[(4, 1)], 3);
-    let page = fed(&["sheet", "-"], &bytes);
-    let why = "refused 27 (OutOfOrder) on page 4, cell 1: the row number or key is out of order";
-    assert!(out(&page).contains(&format!("<p class=\"note bad\">Not compared: {why}.</p>")));
-    assert!(out(&page).contains("1 table is refused, and not compared."));
-    assert!(out(&page).contains("Old and file agree on all 3 rows of those compared, which are not all."));
-    assert!(out(&page).contains("Pages of no table: deleted or damaged <small>3 pages, 5 rows"));
-}
-
-/// Names and statements are texts like all others.
-#[test]
-fn names_are_no_markup() {
-    let mut bytes = two_leaves();
-    schema(&mut bytes, &[("table", "<b>", 2, "CREATE TABLE <i>(a)")]);
-    let page = fed(&["sheet", "-"], &bytes);
-    assert!(out(&page).contains("<h2>&lt;b&gt; <small>") && out(&page).contains("<pre>CREATE TABLE &lt;i&gt;(a)\n"));
 }
 
 /// The header says nine pages, and the counters are equal.
@@ -281,7 +231,6 @@ fn half_a_file_is_told() {
         let output = fed(words, &bytes);
         assert_eq!((err(&output), status(&output)), (said, 4), "{words:?}");
     }
-    assert!(out(&fed(&["sheet", "-"], &bytes)).contains("The file is cut: 8 of its 9 pages are there."));
     // What is refused besides is told as well.
     let output = fed(&["rows", "-", "--table", "9"], &bytes);
     let both = "shorgavel: refused 8 (PageAbsent) on page 9: the page is not wholly in the bytes\n".to_string() + said;
@@ -289,13 +238,7 @@ fn half_a_file_is_told() {
     // Where all agrees that is there, it is not said of all.
     let mut bytes = two_leaves();
     leaf(&mut bytes, 4, &[row(1, 10), row(2, 11)]);
-    let whole = "<p class=\"verdict ok\">Old and file agree on all 7 rows.</p>";
-    assert!(out(&fed(&["sheet", "-"], &bytes)).contains(whole));
     put(&mut bytes, 28, &[0, 0, 0, 7]);
-    let page = fed(&["sheet", "-"], &bytes);
-    let limited =
-        "<p class=\"verdict none\">Old and file agree on all 7 rows of those compared, which are not all.</p>";
-    assert!(out(&page).contains(limited));
     assert_eq!(status(&fed(&["compare", "-"], &bytes)), 4);
     // Pages behind the end are no part of the file, and nothing is missing.
     put(&mut bytes, 28, &[0, 0, 0, 4]);
@@ -318,8 +261,6 @@ fn a_log_beside_the_file_is_told() {
         let output = file.show(words);
         assert!(err(&output).starts_with(said), "{words:?}");
     }
-    let page = file.show(&["sheet"]);
-    assert!(out(&page).contains("The last writes are in logged.db-wal, beside the file: they are not read."));
     assert_eq!(out(&file.show(&["rows"])), out(&plain));
     fs::remove_file(&log).unwrap();
     assert_eq!(err(&run(&[std::ffi::OsStr::new("rows"), file.0.as_os_str()])), "");

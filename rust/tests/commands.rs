@@ -276,67 +276,6 @@ fn compare_tells_what_is_refused_of_long_notes() {
 }
 
 #[test]
-fn sheet_shows_long_notes() {
-    let mut bytes = named(long_notes(), "notes", 2);
-    put(&mut bytes, 4 * 512, &[0; 4]);
-    for words in [&["sheet", "-"][..], &["sheet", "-", "--parting"]] {
-        let output = fed(words, &bytes);
-        let text = String::from_utf8(note(600)[7..67].to_vec()).unwrap();
-        assert!(out(&output).contains(&format!("<b class=\"l\">'{text}'… (591 bytes)</b>")));
-        assert!(out(&output).contains(">refused 21 Marked: a long note, whose payload spills"));
-        assert!(out(&output).contains("The readings part on 2 of 5 rows"));
-        let chain = ">refused 23 ChainUnfit: the overflow chain leaves the file, ends early or goes on";
-        assert_eq!(out(&output).contains(chain), words.len() == 2);
-        assert!(!out(&output).contains("refused 18"));
-    }
-}
-
-/// A text and a name that could be taken for markup.
-#[test]
-fn sheet_is_one_page_and_escapes_what_it_shows() {
-    let mut bytes = every_kind();
-    put(&mut bytes, 429, b"<&");
-    let file = Kept::new("a <sheet>.db", &bytes);
-    let output = file.show(&["sheet"]);
-    let page = out(&output);
-    assert_eq!((err(&output), status(&output)), ("", 0));
-    assert!(page.starts_with("<!doctype html>") && page.ends_with("</html>\n"));
-    assert!(page.contains("<h1>a &lt;sheet&gt;.db</h1>"));
-    assert!(page.contains("'&lt;&amp;'") && !page.contains("'<&'"));
-    assert!(page.contains("The readings part on 1 of 2 rows"));
-    assert_eq!(page.matches("<tr class=p>").count(), 1);
-    assert!(page.contains("<b class=\"d\">0</b>") && page.contains("<b class=\"d\">1</b>"));
-    assert!(page.contains(">refused 21 Marked: a type 9, a stored 1"));
-    for other in ["<script", "http", "src=", "@import", "url("] {
-        assert!(!page.contains(other), "{other}");
-    }
-}
-
-#[test]
-fn sheet_of_narrow_rows_has_a_column_for_each_value() {
-    let output = fed(&["sheet", "-"], &two_rows());
-    let parting = "<td class=\"s d\">0<td>16777216<td class=\"s d\">1<td>16777216<td class=\"s r\" colspan=2>";
-    let agreeing =
-        "<tr><th>1<th>2<td class=\"s\">0<td>16777216<td class=\"s\">0<td>16777216<td class=\"s\">0<td>16777216\n";
-    assert!(out(&output).contains(parting) && out(&output).contains(agreeing));
-    assert!(out(&output).contains("<h1>standard input</h1>"));
-    let mut agreeing = two_rows();
-    agreeing[506] = 8;
-    assert!(out(&fed(&["sheet", "-"], &agreeing)).contains("Old and file agree on all 2 rows."));
-}
-
-#[test]
-fn sheet_of_parting_rows_has_no_other() {
-    let output = fed(&["sheet", "-", "--parting"], &two_rows());
-    let row = "<tr class=p><th>1<th>0<th>1<td class=s><div><b class=\"d\">0</b><b>16777216</b></div>\
-               <td class=s><div><b class=\"d\">1</b><b>16777216</b></div><td class=\"s r\" colspan=1>refused 21 Marked: ";
-    assert!(out(&output).contains(row));
-    assert_eq!((out(&output).matches("<table").count(), out(&output).matches("<tr><th>").count()), (1, 0));
-    let both = fed(&["sheet", "-", "--parting"], &[two_rows(), vec![0; 512]].concat());
-    assert_eq!(out(&both).matches("<tr class=p>").count(), 1);
-}
-
-#[test]
 fn help_and_version_are_told() {
     for word in ["-h", "--help"] {
         let output = run(&[word]);
@@ -366,7 +305,7 @@ fn help_and_version_are_told() {
 #[test]
 fn wrong_words_end_with_2() {
     let root = "--table takes the number of a root page, as `shorgavel tables` lists it";
-    let wrong: [(&[&str], &str); 21] = [
+    let wrong: [(&[&str], &str); 20] = [
         (&[], "a command is missing"),
         (&["row"], "there is no command row"),
         (&["rows"], "rows: FILE is missing"),
@@ -376,7 +315,6 @@ fn wrong_words_end_with_2() {
         (&["rows", "-", "--fast"], "there is no option --fast"),
         (&["rows", "-", "--reading"], "--reading takes old, file or guarded"),
         (&["rows", "-", "--reading", "new"], "--reading takes old, file or guarded"),
-        (&["sheet", "-", "--reading", "old"], "sheet takes no --reading"),
         (&["trust"], "trust: FILE is missing"),
         (&["writer", "-", "-"], "writer: - is one word too many"),
         (&["trust", "-", "--notes"], "trust takes no --notes"),

@@ -106,6 +106,14 @@ pub fn row(number: i64, value: i64) -> (i64, Vec<u8>) {
     (number, record(&[Integer(value)]))
 }
 
+/// The table `load(idle, coulombs)`, root 2: row 1 is an idle load, a stored 1 (type 9), and row 2 is not.
+pub fn idle_load() -> Vec<u8> {
+    let mut bytes = pages(2);
+    schema(&mut bytes, &[("table", "load", 2, "CREATE TABLE load(idle, coulombs)")]);
+    leaf(&mut bytes, 2, &[(1, b"\x03\x09\x04\x01\0\0\0".to_vec()), (2, b"\x03\x08\x04\x01\0\0\0".to_vec())]);
+    bytes
+}
+
 /// The table `load`, root 2, with the leaves 4 and 3: rows -5 and 2, and rows 7 and 9, each with a value of its own. Page 5 is
 /// a leaf that no table leads to, with the row 8, a stored 1 (type 9); page 6 is the root of `keyed`, which has no row
 /// numbers.

@@ -4,6 +4,7 @@ use crate::failure::Failure;
 use crate::form::Form;
 use crate::lines::Lines;
 use crate::options::{self, Words};
+use crate::sheet::{self, View};
 use shorgavel::{Notes, Reading};
 use std::ffi::{OsStr, OsString};
 use std::path::Path;
@@ -26,14 +27,7 @@ pub enum Order {
     Rows(OsString, Lines),
     Compare(OsString),
     Summary(Vec<OsString>, Form),
-    Sheet(OsString, Rows),
-}
-
-/// Which rows a sheet shows.
-#[derive(Clone, Copy, PartialEq)]
-pub enum Rows {
-    All,
-    Parting,
+    Sheet(OsString, sheet::Asked),
 }
 
 const COMMANDS: [&str; 9] = ["trust", "writer", "header", "page", "tables", "rows", "compare", "sheet", "help"];
@@ -91,7 +85,7 @@ fn order(name: &str, words: &mut Words) -> Result<Order, Failure> {
             Order::Summary([first].into_iter().chain(plain.by_ref()).collect(), words.form.unwrap_or_default())
         }
         "compare" => Order::Compare(next("FILE")?),
-        "sheet" => Order::Sheet(next("FILE")?, if words.parting { Rows::Parting } else { Rows::All }),
+        "sheet" => Order::Sheet(next("FILE")?, sheet::Asked { view: view(words)?, table: words.table }),
         "help" => help(plain.next())?,
         _ => return Err(no_command(name)),
     };
@@ -108,19 +102,28 @@ fn trust(first: OsString, more: impl Iterator<Item = OsString>, form: Option<For
     }
 }
 
+/// Rows part between readings, so that one alone has none that part.
+fn view(words: &Words) -> Result<View, Failure> {
+    match (words.reading, words.parting) {
+        (Some(_), true) => Err(wrong("sheet takes --reading or --parting, not both".to_string())),
+        (Some(reading), false) => Ok(View::One(reading)),
+        (None, parting) => Ok(if parting { View::Parting } else { View::Three }),
+    }
+}
+
 /// The first word or option for which the command has no use.
 fn unfit(name: &str, order: &Order, words: &Words) -> Option<Failure> {
-    let rows = matches!(order, Order::Rows(..));
+    let (rows, sheet) = (matches!(order, Order::Rows(..)), matches!(order, Order::Sheet(..)));
     let summary = matches!(order, Order::Summary(..));
     let listed = rows || summary || matches!(order, Order::TrustMany(..));
     let options = [
-        ("--reading", words.reading.is_some(), rows || matches!(order, Order::Page(..))),
-        ("--table", words.table.is_some(), rows),
+        ("--reading", words.reading.is_some(), rows || sheet || matches!(order, Order::Page(..))),
+        ("--table", words.table.is_some(), rows || sheet),
         ("--notes", words.notes, rows),
         ("--summary", words.summary, summary),
         ("--csv", words.form == Some(Form::Csv), listed),
         ("--json", words.form == Some(Form::Json), listed),
-        ("--parting", words.parting, matches!(order, Order::Sheet(..))),
+        ("--parting", words.parting, sheet),
     ];
     let several = if matches!(order, Order::Compare(_)) { ": --summary takes several files" } else { "" };
     let too_many = |more: &OsString| format!("{name}: {} is one word too many{several}", more.to_string_lossy());

@@ -10,6 +10,8 @@ pub enum Failure {
     Refused(Refusal),
     /// There is no such page; the words say which there are.
     Absent(Refusal, String),
+    /// No table has this root page.
+    NoTable(u32),
     /// The readings part, or something else wrote a row: what was to be found out, and told by the status.
     Found,
     /// A table was left out, as the output tells.
@@ -43,6 +45,9 @@ impl Failure {
         match self {
             Failure::Refused(refusal) => eprintln!("shorgavel: {refusal}"),
             Failure::Absent(refusal, pages) => eprintln!("shorgavel: {refusal}; {pages}"),
+            Failure::NoTable(root) => {
+                eprintln!("shorgavel: no table has the root page {root}; `shorgavel tables` lists the roots");
+            }
             Failure::Found | Failure::Listed(_) => {}
             Failure::Partial(Work::Compare) => eprintln!("shorgavel: not all tables are compared"),
             Failure::Partial(Work::Ask) => eprintln!("shorgavel: not all tables are asked"),
@@ -68,7 +73,7 @@ impl Failure {
             Failure::Unread(..) | Failure::Unwritten(_) | Failure::UnwrittenFile(..) => 3,
             Failure::Cut(_) => 4,
             Failure::Nothing(_) | Failure::Bare(_) => 5,
-            Failure::Refused(_) | Failure::Absent(..) | Failure::Partial(_) => 6,
+            Failure::Refused(_) | Failure::Absent(..) | Failure::NoTable(_) | Failure::Partial(_) => 6,
             Failure::Listed(status) => *status,
         }
     }

@@ -78,6 +78,11 @@ impl<'a> Leaf<'a> {
         }
     }
 
+    /// What guarded shows, and so old and file too.
+    pub fn agreed(&self, cell: usize) -> Option<Cell<'a>> {
+        self.guarded.cell(cell).ok()
+    }
+
     /// The cells on which guarded shows nothing. Where it does, it alone tells that all agree, so most rows are read once.
     pub fn doubtful(&self) -> impl Iterator<Item = usize> + '_ {
         (0..self.len()).filter(|&cell| self.guarded.cell(cell).is_err())
@@ -110,11 +115,6 @@ pub struct Count {
 }
 
 impl Count {
-    pub fn sum(counts: &[Count]) -> Count {
-        let of = |field: fn(&Count) -> usize| counts.iter().map(field).sum();
-        Count { cells: of(|count| count.cells), parted: of(|count| count.parted), refused: of(|count| count.refused) }
-    }
-
     /// A leaf's cells are counted; those that part or are refused come one by one, and `doubted` is shown them.
     pub fn leaf(&mut self, leaf: &Leaf<'_>, lent: &mut Lent, mut doubted: impl FnMut(&Trio<'_>)) {
         self.cells += leaf.len();

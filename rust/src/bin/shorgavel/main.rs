@@ -87,7 +87,7 @@ fn show(order: Order, out: &mut Out) -> Result<(), Failure> {
         Order::Rows(file, lines) => whole(&file, |database| lines::show(database, lines, out)),
         Order::Summary(files, form) => many::show::<compare::Line>(&files, form, out),
         Order::Compare(file) => whole(&file, |database| compare::show(database, out)),
-        Order::Sheet(file, rows) => whole(&file, |database| sheet::show(database, rows, out)),
+        Order::Sheet(file, asked) => whole(&file, |database| sheet::show(database, asked, out)),
     }
 }
 

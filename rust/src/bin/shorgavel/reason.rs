@@ -29,15 +29,20 @@ pub fn lines(trio: &Trio<'_>, encoding: TextEncoding) -> Vec<String> {
 
 /// The line on a page of which the original shows nothing; none on another.
 pub fn refused_whole(leaf: &Leaf<'_>) -> Option<String> {
-    let refusal = leaf.refused_whole()?;
-    let cells = match leaf.len() {
+    leaf.refused_whole().map(|refusal| format!("page {}: {}", leaf.number(), unshown(leaf.len(), refusal)))
+}
+
+/// What there is to say of a page of so many cells that the original refuses whole; of 0, where it was not opened.
+pub fn unshown(cells: usize, refusal: Refusal) -> String {
+    let cells = match cells {
+        0 => "any of it".to_string(),
         1 => "its one cell".to_string(),
         cells => format!("any of its {}", counted(cells, "cell")),
     };
     let cell = refusal.cell().map_or(String::new(), |cell| format!(" for cell {cell}"));
-    let mut line = format!("page {}: no tablet showed {cells}: the original refuses the page{cell}: ", leaf.number());
+    let mut line = format!("no tablet showed {cells}: the original refuses the page{cell}: ");
     words::refusal(&mut line, refusal);
-    Some(line)
+    line
 }
 
 /// The line on a cell that old and file refuse; none on another. One reason is told once.

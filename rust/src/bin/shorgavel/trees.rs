@@ -79,6 +79,12 @@ impl Trees {
         self.tables.iter().flat_map(|tree| tree.leaves.iter().flatten().copied())
     }
 
+    /// The table at a root page alone, if there is one.
+    pub fn only(self, root: u32) -> Option<Trees> {
+        let found = self.tables.into_iter().find(|tree| tree.named.root.page() == Some(root))?;
+        Some(Trees { tables: vec![found], unread: Vec::new(), loose: Vec::new() })
+    }
+
     /// Whether rows may be of a table and are not known to be.
     pub fn is_partial(&self) -> bool {
         let faulty = |tree: &Tree| tree.leaves.as_ref().is_err_and(Apart::is_fault);

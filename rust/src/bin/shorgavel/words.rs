@@ -38,7 +38,7 @@ pub fn value(words: &mut String, value: Value<'_>, encoding: TextEncoding) {
         Value::Real(x) if x.is_nan() => push(words, format_args!("not a number ({:016x})", x.to_bits())),
         Value::Real(x) => push(words, format_args!("{x:?}")),
         Value::Text(bytes) => match encoding.decode(bytes) {
-            Some(characters) => text(words, &characters, bytes.len()),
+            Some(characters) => text(words, &characters, bytes.len(), TEXT, hidden),
             None => {
                 words.push_str("text ");
                 blob(words, bytes);
@@ -53,13 +53,14 @@ fn push(words: &mut String, more: std::fmt::Arguments<'_>) {
     let _ = words.write_fmt(more);
 }
 
-fn text(words: &mut String, characters: &str, bytes: usize) {
+/// So many characters of a text, which has that many bytes; those that are to be escaped have their numbers.
+pub fn text(words: &mut String, characters: &str, bytes: usize, most: usize, escaped: fn(char) -> bool) {
     words.push('\'');
     let mut rest = characters.chars();
-    for character in rest.by_ref().take(TEXT) {
+    for character in rest.by_ref().take(most) {
         match character {
             '\'' => words.push_str("''"),
-            _ if hidden(character) => words.extend(character.escape_unicode()),
+            _ if escaped(character) => words.extend(character.escape_unicode()),
             _ => words.push(character),
         }
     }
