@@ -2,9 +2,11 @@
 
 mod common;
 
-use common::command::{err, fed, out, run, status};
+use common::command::{err, fed, kept, out, run, status};
 use common::trees::{idle_load, leaf, row, two_leaves};
 use common::{pages, put, two_rows};
+use std::collections::HashSet;
+use std::ffi::OsStr;
 
 /// The sheet of a database, and its lines below the heads.
 fn sheet(words: &[&str], bytes: &[u8]) -> (String, Vec<String>) {
@@ -69,6 +71,10 @@ fn what_was_never_on_a_tablet_is_told() {
                    them were on a tablet.</p>";
     assert!(top.contains(verdict) && top.contains("<dt>Rows that agree</dt><dd>5</dd>"));
     assert!(top.contains("<dt>Rows alike, on no tablet</dt><dd>1</dd>"));
+    // Guarded shows such a row, and it is told there too.
+    let (page, lines) = sheet(&["--reading=guarded"], &one_bad_page());
+    assert_eq!(lines[..2], [format!("<tr class=x><td colspan=3>Page 4: {WHY}."), "<tr><th>1<td>4·0<td>10".to_string()]);
+    assert!(page.contains("The original refuses 1 page with 2 rows: they were on no tablet."));
     // It is told also where only parting rows are shown, of which the page has none.
     let (_, lines) = sheet(&["--parting"], &one_bad_page());
     assert!(lines[0].starts_with("<tr class=x><td colspan=5>Page 4: no tablet") && lines[1].contains("5·0"));
@@ -89,13 +95,28 @@ fn the_old_sheet_has_what_the_tablets_had() {
         lines[lines.len() - 2..],
         ["<tr class=q><td colspan=3>Page 5, 4 on the tablets", "<tr><th>8<td>5·0<td>0"]
     );
-    assert!(page.contains("<dt>Rows on the tablets</dt><dd>5</dd>"));
+    assert!(page.contains("<dt>Of them on the tablets</dt><dd>5</dd>"));
     assert!(page.contains("The original refuses 1 page with 2 rows: they were on no tablet."));
     assert!(page.contains("The tablets know no tables, and show them with all others."));
     // The other readings show cells one by one.
     let (_, lines) = sheet(&["--reading=file"], &one_bad_page());
     assert_eq!(lines[0], "<tr><th>1<td>4·0<td>10");
     assert!(lines[1].starts_with("<tr><th>2<td>4·1<td class=\"t r\" colspan=1>refused 15 TypeReserved"));
+}
+
+/// The rows of `rows --reading old` on pages of which it refuses none: what the original shows is what its pages have.
+#[test]
+fn the_old_sheet_has_as_many_rows_as_the_accepted_pages() {
+    for (name, shown) in [("rows", 2), ("rows_hand", 2), ("rows_largest", 0), ("rows_reserved", 3)] {
+        let file = kept(name, "stdin");
+        let rows = run(&[OsStr::new("rows"), OsStr::new("--reading=old"), file.as_os_str()]);
+        let page = |line: &str| line.split(' ').next().unwrap().to_string();
+        let refused: HashSet<_> = out(&rows).lines().filter(|line| line.contains(" refused ")).map(page).collect();
+        let accepted = out(&rows).lines().skip(1).filter(|line| !refused.contains(&page(line))).count();
+        let sheet = run(&[OsStr::new("sheet"), OsStr::new("--reading=old"), file.as_os_str()]);
+        let lines = out(&sheet).lines().filter(|line| line.starts_with("<tr><th>") && line.contains('·')).count();
+        assert_eq!((lines, accepted), (shown, shown), "{name}");
+    }
 }
 
 /// The tablets count pages by the bytes, and open some that file does not.

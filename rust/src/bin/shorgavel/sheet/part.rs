@@ -106,15 +106,14 @@ impl<'s> Part<'s> {
 fn top(page: u32, unshown: Option<Unshown>, view: View, body: &mut Body<'_>) {
     let old = view == View::One(Reading::Old);
     let number = if old { format!("Page {page}, {} on the tablets", page - 1) } else { format!("Page {page}") };
-    let Some(Unshown { refusal, rows }) = unshown else {
-        if old {
-            body.note("q", &number);
+    let below = if matches!(view, View::One(_)) { "" } else { ". What stands below as old† is of single cells" };
+    match unshown {
+        Some(Unshown { refusal, rows }) => {
+            body.note("x", &format!("{number}: {}{below}.", reason::unshown(rows, refusal)));
         }
-        return;
-    };
-    let why = reason::unshown(rows, refusal);
-    let below = if old { "" } else { ". What stands below as old† is of single cells" };
-    body.note("x", &format!("{number}: {why}{below}."));
+        None if old => body.note("q", &number),
+        None => {}
+    }
 }
 
 /// The names of a table's columns, as far as they are known.

@@ -66,7 +66,7 @@ impl Summary<'_> {
         let (class, words) = match reading {
             Reading::Old => ("o", "what the tablets show, faults and all. The gauge may have written something else"),
             Reading::File => ("f", "what the gauge wrote. The tablets may show something else"),
-            Reading::Guarded => ("g", "a row only where the tablets show what the gauge wrote"),
+            Reading::Guarded => ("g", "a row only where old and file agree"),
         };
         writeln!(out, "<p class=\"verdict {class}\">The {reading} reading alone: {words}.</p>")
     }
@@ -158,7 +158,7 @@ impl Summary<'_> {
             ("Rows", rows),
         ];
         match self.view {
-            View::One(Reading::Old) => facts.extend([("Rows on the tablets", rows - unshown_rows)]),
+            View::One(Reading::Old) => facts.extend([("Of them on the tablets", rows - unshown_rows)]),
             View::One(_) => facts.extend([("Rows shown", rows - refused), ("Rows refused", refused)]),
             View::Three | View::Parting => {
                 facts.push(("Rows that agree", rows - parted - refused - unshown_alike));

@@ -69,7 +69,7 @@ impl<'a> Pages<'a> {
 
     /// Counts the rows of a page and shows the lines of those that are viewed.
     pub fn count(&mut self, page: u32, line: impl FnMut(usize, &Line<'_, '_>)) -> Result<Tally, Refusal> {
-        if self.view == View::One(Reading::Old) {
+        if matches!(self.view, View::One(Reading::Old | Reading::Guarded)) {
             self.look(page);
         }
         let mut tally = self.lines(page, &[], line)?;
@@ -121,7 +121,7 @@ impl<'a> Pages<'a> {
         rows: &[Place],
         mut line: impl FnMut(usize, &Line<'_, '_>),
     ) -> Result<Tally, Refusal> {
-        if let Some(unshown) = self.unshown(page) {
+        if let (Reading::Old, Some(unshown)) = (reading, self.unshown(page)) {
             return Ok(Tally { rows: unshown.rows, ..Tally::default() });
         }
         let leaf = self.gauge.get_page(reading, page - 1 + reading.first_page())?;
