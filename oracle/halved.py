@@ -9,8 +9,9 @@ import subprocess
 from collections import namedtuple
 
 import lent
+import linked
 
-WORK = lent.ROOT / "target" / "halved"
+WORK = linked.ROOT / "target" / "halved"
 BEHIND = 4
 # What a place holds before the calls.
 FILL = (250, 251, 252, 253, -254, 255, 256)
@@ -23,12 +24,7 @@ ENTRY = struct.Struct("<4Qq2Q")
 
 def built():
     """The command that answers."""
-    WORK.mkdir(parents=True, exist_ok=True)
-    compiler, under = lent.machine()
-    flags = ["-std=c11", "-Wall", "-Wextra", "-Werror", "-O2", "-static", "-I", lent.ROOT / "include"]
-    source = lent.ROOT / "oracle" / "halved.c"
-    subprocess.run([compiler, *flags, "-o", WORK / "halved", source, lent.library()], check=True)
-    return [*under, str(WORK / "halved")]
+    return linked.built("halved")
 
 
 def answers(command, databases, rounds):
