@@ -1,5 +1,8 @@
 //! What a reader was shown of a database: the same four numbers as in bench/shown.h.
 
+// Each program takes what it needs of these.
+#![allow(dead_code)]
+
 use std::fmt;
 
 #[derive(Default)]
@@ -14,6 +17,11 @@ impl Shown {
     pub fn row(&mut self, number: u64) {
         self.rows += 1;
         self.sum = self.sum.wrapping_add(number);
+    }
+
+    /// Where values are shown by themselves, how many rows they are of.
+    pub fn set_rows(&mut self, rows: usize) {
+        self.rows = rows as u64;
     }
 
     pub fn integer(&mut self, number: i64) {

@@ -41,7 +41,7 @@ extern "C" {
  * 16  the value passes the end, or bytes are left over behind the last
  * 17  the varint behind the index record has no end
  * 18  the payload spills to overflow pages, and no gather buffer is lent
- * 19  the lent table is shorter than the cell count
+ * 19  the lent table or list is too short
  * 20  there is no such cell, or no such column in it
  * 21  old and file need not agree
  * 22  there are over 1,073,741,824 bytes
@@ -69,7 +69,7 @@ typedef struct {
 } shorgavel_refused;
 
 /* READINGS, where a call is told one by its number; any other number is taken for the file reading. So is guarded's, but where
- * a page is opened. */
+ * a page is opened and for a screenful. */
 enum { SHORGAVEL_OLD = 0, SHORGAVEL_FILE = 1, SHORGAVEL_GUARDED = 2 };
 
 /* THE DATABASE AND ITS PAGES */
@@ -296,6 +296,34 @@ shorgavel_shown shorgavel_file_value(const uint8_t *db, size_t length, uint32_t 
 
 /* The same if old and file agree on the cell. */
 shorgavel_shown shorgavel_guarded_value(const uint8_t *db, size_t length, uint32_t page, size_t cell, size_t column);
+
+/* A SCREENFUL AT ONCE: the values at a list of addresses. Addresses of one screen lie on few pages and in few rows: a page stays open
+ * while the next address names it, and a row stays found while the next address names its cell. So who asks row by row pays for
+ * header and page once a page, and for the record once a row, and not for each value. */
+
+/* Where a value stands: its page, as the reading counts, its cell and its column. */
+typedef struct {
+    uint32_t page;
+    size_t cell;
+    size_t column;
+} shorgavel_address;
+
+/* How many answers a list was filled with; 0 where the call is refused. */
+typedef struct {
+    shorgavel_refused refused;
+    size_t count;
+} shorgavel_screen_answer;
+
+/* The size of a list of so many addresses or answers, as the call below is told it: in words of 64 bits. */
+#define SHORGAVEL_ADDRESS_WORDS(count) ((count) * (sizeof(shorgavel_address) / sizeof(uint64_t)))
+#define SHORGAVEL_ANSWER_WORDS(count) ((count) * (sizeof(shorgavel_shown) / sizeof(int64_t)))
+
+/* The answer to each address, in the place of the list of answers that the address has in its own: what the call on that one value
+ * answers in the reading, lent no gather buffer, a refusal with its page and cell too. A refused address stops no other. Places behind
+ * the last answer are left as they were. A list of answers with fewer places than there are addresses is refused (19, with page 0)
+ * before anything is read, and left as it was. Neither pointer is null, also where there is no place. */
+shorgavel_screen_answer shorgavel_screen(const uint8_t *db, size_t length, uint8_t reading, const shorgavel_address *addresses,
+                                         size_t address_words, shorgavel_shown *answers, size_t answer_words);
 
 /* LONG NOTES: a payload of P bytes that spills to overflow pages is refused (18) by the calls above. The calls below are lent a
  * gather buffer, and put it together there: in the first P bytes; those behind them are left as they were.

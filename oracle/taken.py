@@ -88,7 +88,10 @@ def old_page(db, number):
     at, head = number * size, 100 if number == 0 else 0
     if at + size > len(db):
         raise Refused(8, number)
-    kind = db[at + head]
+    if size < head:
+        raise Refused(9, number)
+    # Old takes any page size, so there may be no kind byte.
+    kind = db[at + head] if head < size else None
     if kind not in (INTERIOR_INDEX, INTERIOR_TABLE, LEAF_INDEX, LEAF_TABLE):
         raise Refused(10, number)
     pointers = at + head + (12 if kind in INTERIOR else 8)

@@ -3,17 +3,17 @@
 //! Why it is sound, for every call: it is proved to answer for every input, whatever the bytes and the numbers are, so
 //! nothing is asked of its caller but what a slice gives anyway: a pointer that is not null (that of an empty slice
 //! dangles, but it is not null and nothing is read behind it) and as many readable bytes as the length says. It keeps no
-//! pointer, allocates nothing and writes to nothing but the answer and, where they are lent, the table and the buffer.
+//! pointer, allocates nothing and writes to nothing but the answer and, where they are lent, the table, the list and the buffer.
 //! What is lent to be written is lent alone, so it overlaps nothing else that the call sees. The structs are laid out as
 //! in the header: the test below holds their sizes, and `tests/gauge.rs` every field, to what C has. Answers are plain
 //! numbers, and every pattern of bits is one.
 
-use crate::{Place, Slot};
+use crate::{Address, Answer, Place, Slot};
 use std::mem::size_of;
 
 /// Why nothing is shown; number 0: nothing is refused.
 #[repr(C)]
-#[derive(Clone, Copy)]
+#[derive(Clone, Copy, Debug, Default, PartialEq, Eq)]
 pub struct Refused {
     pub number: u8,
     pub mark: u8,
@@ -128,7 +128,7 @@ pub const TEXT: u8 = 3;
 pub const BLOB: u8 = 4;
 
 #[repr(C)]
-#[derive(Clone, Copy, Debug, Default)]
+#[derive(Clone, Copy, Debug, Default, PartialEq, Eq)]
 pub struct Value {
     pub kind: u8,
     pub width: u8,
@@ -152,10 +152,22 @@ pub struct Row {
 }
 
 #[repr(C)]
+#[derive(Clone, Copy, Debug, Default, PartialEq, Eq)]
 pub struct Shown {
     pub refused: Refused,
     pub value: Value,
 }
+
+/// How many answers a list was filled with; 0 where the call is refused.
+#[repr(C)]
+pub struct ScreenAnswer {
+    pub refused: Refused,
+    pub count: usize,
+}
+
+/// The sizes of lists of addresses and of answers are told in words: so many each.
+const ADDRESS_WORDS: usize = size_of::<Address>() / size_of::<u64>();
+const ANSWER_WORDS: usize = size_of::<Answer>() / size_of::<i64>();
 
 /// The source of a row or a value whose places count in the gather buffer; those of any other count in the database.
 pub const BUFFER: u8 = 1;
@@ -222,6 +234,15 @@ extern "C" {
     fn shorgavel_old_value(db: *const u8, length: usize, page: u32, cell: usize, column: usize) -> Shown;
     fn shorgavel_file_value(db: *const u8, length: usize, page: u32, cell: usize, column: usize) -> Shown;
     fn shorgavel_guarded_value(db: *const u8, length: usize, page: u32, cell: usize, column: usize) -> Shown;
+    fn shorgavel_screen(
+        db: *const u8,
+        length: usize,
+        reading: u8,
+        addresses: *const Address,
+        address_words: usize,
+        answers: *mut Answer,
+        answer_words: usize,
+    ) -> ScreenAnswer;
     fn shorgavel_file_value_lent(
         db: *const u8,
         length: usize,
@@ -370,6 +391,18 @@ pub fn guarded_value(db: &[u8], page: u32, cell: usize, column: usize) -> Shown 
     unsafe { shorgavel_guarded_value(db.as_ptr(), db.len(), page, cell, column) }
 }
 
+/// The answer of these three to each address, in a reading, in its place of the list of answers.
+#[inline]
+pub fn screen(db: &[u8], reading: u8, addresses: &[Address], answers: &mut [Answer]) -> ScreenAnswer {
+    let (asked, asked_words) = (addresses.as_ptr(), addresses.len() * ADDRESS_WORDS);
+    let (told, told_words) = (answers.as_mut_ptr(), answers.len() * ANSWER_WORDS);
+    // SAFETY: all three pairs of pointer and length are of one slice each. An address is three words and an answer eight, and both lie
+    // as words must, as the test below holds; so no more is read than the addresses, and no more written than the answers, which are
+    // lent alone. Any numbers are an address: of the first word the call takes the half that is the page, so it does not matter what
+    // stands beside it. What is written are numbers, and every pattern of bits is one in each field of an answer.
+    unsafe { shorgavel_screen(db.as_ptr(), db.len(), reading, asked, asked_words, told, told_words) }
+}
+
 /// One column of a cell in the file reading, with a buffer for a payload that spills.
 pub fn file_value_lent(db: &[u8], page: u32, cell: usize, column: usize, buffer: &mut [u8]) -> LentValue {
     let (bytes, room) = (buffer.as_mut_ptr(), buffer.len());
@@ -447,6 +480,9 @@ mod tests {
         assert_eq!(size_of::<LentValue>(), 72);
         assert_eq!(size_of::<Place>(), 24);
         assert_eq!(size_of::<RowsAnswer>(), 32);
+        assert_eq!(size_of::<Address>(), 24);
+        assert_eq!(size_of::<Answer>(), 64);
+        assert_eq!(size_of::<ScreenAnswer>(), 32);
     }
 
     /// A table of values is a table of words too: five a place, and none stands askew.
@@ -463,6 +499,15 @@ mod tests {
         assert_eq!((PLACE_WORDS, align_of::<Place>()), (3, 8));
     }
 
+    /// And the lists of a screen: three words an address, eight an answer.
+    #[test]
+    fn a_screen_is_words() {
+        assert_eq!((ADDRESS_WORDS, align_of::<Address>()), (3, 8));
+        assert_eq!((ANSWER_WORDS, align_of::<Answer>()), (8, 8));
+        assert_eq!(size_of::<Address>(), ADDRESS_WORDS * size_of::<u64>());
+        assert_eq!(size_of::<Answer>(), ANSWER_WORDS * size_of::<i64>());
+    }
+
     /// An empty slice's pointer dangles: the calls answer without reading behind it.
     #[test]
     fn no_bytes_are_answered() {
@@ -475,6 +520,28 @@ mod tests {
         assert_eq!(table_count(&[], 1).refused.number, 1);
         assert_eq!(table_rows(&[], 1, &mut Vec::new()).refused.number, 1);
         assert_eq!(trusted_rows(&[], 1, &mut Vec::new()).refused.number, 1);
+        assert_eq!((screen(&[], 1, &[], &mut []).refused.number, screen(&[], 1, &[], &mut []).count), (0, 0));
+        let mut answers = [Answer::default()];
+        assert_eq!(screen(&[], 1, &[Address::default()], &mut answers).count, 1);
+        assert_eq!(answers[0].0.refused.number, 1);
+    }
+
+    /// Every field of an answer is written, in its own place, whatever it held, and whatever number names the file reading.
+    #[test]
+    fn an_answer_has_every_field_in_its_place() {
+        let bytes = one_row();
+        let refused = Refused { number: 9, mark: 9, page: 9, cell: 9, column: 9 };
+        let other = Answer(Shown { refused, value: Value { kind: 9, width: 9, integer: 9, bits: 9, at: 9, len: 9 } });
+        let five = Value { kind: INTEGER, width: 0, integer: 5, bits: 0, at: 0, len: 0 };
+        for (reading, page, width) in [(0, 0, 8), (1, 1, 0), (2, 1, 0), (255, 1, 0)] {
+            let mut answers = [other; 3];
+            let addresses = [Address { page, cell: 0, column: 0 }, Address { page, cell: 3, column: 2 }];
+            let answer = screen(&bytes, reading, &addresses, &mut answers);
+            assert_eq!((answer.refused, answer.count), (Refused::default(), 2));
+            assert_eq!(answers[0].0, Shown { value: Value { width, ..five }, ..Shown::default() });
+            assert_eq!(answers[1].0.refused, Refused { number: 20, page, ..Refused::default() });
+            assert_eq!((answers[1].0.value, answers[2]), (Value::default(), other));
+        }
     }
 
     /// A page of 512 bytes and one row, number 3, of a 5 (type 1) and a 7 (type 2).

@@ -1,6 +1,6 @@
 use crate::bytes::Bytes;
 use crate::calls;
-use crate::{DbHeader, Head, Leaves, Notes, Page, Reading, Refusal, Rows, Schema, Slot, Table, Value};
+use crate::{Address, Answer, DbHeader, Head, Leaves, Notes, Page, Reading, Refusal, Rows, Schema, Slot, Table, Value};
 use std::ops::Range;
 
 /// How many pages a database has.
@@ -28,6 +28,11 @@ impl<'a> Gauge<'a> {
     #[must_use]
     pub fn new(bytes: &'a [u8]) -> Gauge<'a> {
         Gauge { bytes: Bytes(bytes) }
+    }
+
+    #[inline]
+    pub(crate) fn bytes(&self) -> &'a [u8] {
+        self.bytes.0
     }
 
     /// Whether a database of that many bytes is read. It can be asked before the bytes are there.
@@ -170,7 +175,7 @@ impl<'a> Gauge<'a> {
         Schema::of(*self)
     }
 
-    /// One value: column `column` of cell `cell`. Where several are asked for, a [`Cell`](crate::Cell) is quicker.
+    /// One value: column `column` of cell `cell`. Where several are asked for, a [`Cell`](crate::Cell) or [`Gauge::screen`] is quicker.
     ///
     /// # Errors
     /// Those of [`Gauge::get_page`], of [`Page::cell`], and 20 where there is no such column.
@@ -180,8 +185,60 @@ impl<'a> Gauge<'a> {
             Reading::File => calls::file_value(self.bytes.0, pageno, cell, column),
             Reading::Guarded => calls::guarded_value(self.bytes.0, pageno, cell, column),
         };
-        Refusal::check(&shown.refused)?;
-        Ok(Value::of(self.bytes.0, &shown.value))
+        Answer(shown).shown(self)
+    }
+
+    /// A screenful at once: for each address what [`Gauge::value`] answers, in its place of the lent list, and how many there are. An
+    /// address that is refused stops no other, and spare answers are left as they were.
+    ///
+    /// A page stays open while the next address names it, and a row stays found while the next address names its cell: asked row by
+    /// row, forty values of ten rows cost less than a quarter of forty single calls, as `docs/BENCHMARKS.md` of the repository tells.
+    /// [`Gauge::screened`] is the same with a list of its own.
+    ///
+    /// ```
+    /// # // A page of two rows of one column: a stored 0 (type 8), and a stored 1 (type 9), which old shows as 0.
+    /// # let mut bytes = vec![0; 512];
+    /// # bytes[..16].copy_from_slice(b"SQLite format 3\0");
+    /// # bytes[16..24].copy_from_slice(&[2, 0, 1, 1, 0, 64, 32, 32]);
+    /// # bytes[59] = 1;
+    /// # bytes[100..112].copy_from_slice(&[13, 0, 0, 0, 2, 1, 248, 0, 1, 252, 1, 248]);
+    /// # bytes[504..].copy_from_slice(&[2, 2, 2, 9, 2, 1, 2, 8]);
+    /// use shorgavel::{Address, Answer, Gauge, Reading, Value};
+    ///
+    /// let gauge = Gauge::new(&bytes);
+    /// let addresses = [0, 1, 2].map(|cell| Address { page: 1, cell, column: 0 });
+    /// let mut answers = [Answer::default(); 8];
+    /// let count = gauge.screen(Reading::Guarded, &addresses, &mut answers)?;
+    /// for (address, answer) in addresses.iter().zip(&answers[..count]) {
+    ///     match answer.shown(&gauge) {
+    ///         Ok(value) => println!("cell {}: {value}", address.cell),
+    ///         Err(refusal) => println!("{refusal}"),
+    ///     }
+    /// }
+    /// # assert_eq!(count, 3);
+    /// # assert_eq!(answers[0].shown(&gauge), Ok(Value::Integer(0)));
+    /// # assert_eq!([1, 2].map(|at| answers[at].shown(&gauge).unwrap_err().number()), [21, 20]);
+    /// # Ok::<(), shorgavel::Refusal>(())
+    /// ```
+    ///
+    /// # Errors
+    /// 19 where there are fewer answers than addresses, with page 0: before anything is read, whatever the bytes are, and nothing is
+    /// written. What an address is refused with is in its answer.
+    #[inline]
+    pub fn screen(&self, reading: Reading, addresses: &[Address], answers: &mut [Answer]) -> Result<usize, Refusal> {
+        let answer = calls::screen(self.bytes.0, reading.number(), addresses, answers);
+        Refusal::check(&answer.refused)?;
+        Ok(answer.count)
+    }
+
+    /// A screenful at once: for each address what [`Gauge::value`] answers. It is [`Gauge::screen`] with a list of its own.
+    #[must_use]
+    pub fn screened(&self, reading: Reading, addresses: &[Address]) -> Vec<Result<Value<'a>, Refusal>> {
+        let mut answers = vec![Answer::default(); addresses.len()];
+        let count = self.screen(reading, addresses, &mut answers);
+        // There is an answer for each address, so nothing is refused as a whole.
+        debug_assert_eq!(count, Ok(addresses.len()));
+        answers.iter().map(|answer| answer.shown(self)).collect()
     }
 
     /// One value, and one of a long note too: what [`Gauge::value`] refuses with 18 is put together in the notes, and the

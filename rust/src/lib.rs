@@ -33,8 +33,9 @@
 //! Pages count from 0 in the old reading, as in the original's `get_page`, and from 1 in the other two; cells and columns
 //! count from 0. [`Gauge::schema`] names the tables, [`Gauge::table`] lists the rows of one in the order of their numbers, and
 //! [`Gauge::trusted`] lists them if old and file show every one of them alike. Long notes, which spill to overflow pages, are
-//! shown where [`Notes`] are lent. An [`Exchange`] has two databases over one table of entries. [`Cell::shortest`] tells whether a cell could have come from SQLite, by how its numbers are
-//! written. [`moving`] shows how to come over from sqlite-parser-nom.
+//! shown where [`Notes`] are lent. [`Gauge::screen`] shows the values at a list of addresses, a screenful at once. An [`Exchange`]
+//! has two databases over one table of entries. [`Cell::shortest`] tells whether a cell could have come from SQLite, by how its
+//! numbers are written. [`moving`] shows how to come over from sqlite-parser-nom.
 
 #![deny(unsafe_code)]
 #![warn(missing_docs)]
@@ -58,6 +59,7 @@ mod reading;
 mod refusal;
 mod rows;
 mod schema;
+mod screen;
 mod slot;
 mod table;
 mod value;
@@ -79,6 +81,7 @@ pub use reading::{NoSuchReading, Reading};
 pub use refusal::Refusal;
 pub use rows::{Leaves, Row, Rows};
 pub use schema::{Named, Root, Schema, Unread, Unreadable};
+pub use screen::{Address, Answer};
 pub use slot::Slot;
 pub use value::{Value, Width};
 pub use values::Values;

@@ -36,7 +36,7 @@ const REASONS: &[(usize, &str, &str)] = &[
     (16, "ValueUnfit", "the value passes the end, or bytes are left over behind the last"),
     (17, "ClosingCut", "the varint behind the index record has no end"),
     (18, "PayloadSpills", "the payload spills to overflow pages, and no gather buffer is lent"),
-    (19, "TableTooShort", "the lent table is shorter than the cell count"),
+    (19, "TableTooShort", "the lent table or list is too short"),
     (20, "NoSuchCellOrColumn", "there is no such cell, or no such column in it"),
     (21, "Marked", "old and file need not agree"),
     (22, "OverLimit", "there are over 1,073,741,824 bytes"),
@@ -94,7 +94,8 @@ impl Refusal {
         self.reason().1
     }
 
-    /// The page, as the reading counts it that refuses: for all but 1 to 7 and 22, which are of the database.
+    /// The page, as the reading counts it that refuses: for all but 1 to 7 and 22, which are of the database. It is 0 for the 19 of a
+    /// screen, which is of no page.
     #[must_use]
     pub fn page(self) -> Option<u32> {
         (!matches!(self.number, 1..=7 | 22)).then_some(self.page as u32)

@@ -12,9 +12,16 @@ fn it_has_its_licence_and_its_pages() {
     let words = ["package", "--list", "--allow-dirty", "--offline"];
     let listed = Command::new(env!("CARGO")).args(words).current_dir(PACKAGE).output().unwrap();
     let listed = String::from_utf8(listed.stdout).unwrap();
-    for name in
-        ["LICENSE", "NOTICE", "CHANGELOG.md", "README.md", "docs/MOVING.md", "man/shorgavel.1", "examples/sum.rs"]
-    {
+    for name in [
+        "LICENSE",
+        "NOTICE",
+        "CHANGELOG.md",
+        "README.md",
+        "docs/MOVING.md",
+        "man/shorgavel.1",
+        "examples/screen.rs",
+        "examples/sum.rs",
+    ] {
         assert!(listed.lines().any(|line| line == name), "{name}: {listed}");
     }
     let licence = fs::read_to_string(format!("{PACKAGE}/LICENSE")).unwrap();

@@ -5,13 +5,15 @@
 
 #[path = "../../shown.rs"]
 mod shown;
+mod values;
 
 use std::error::Error;
 use std::{env, fs};
 
-use shorgavel::{Cell, Gauge, Notes, Reading, Refusal, Value};
+use shorgavel::{Cell, Gauge, Notes, Reading, Refusal};
 
 use shown::Shown;
+use values::show;
 
 fn main() -> Result<(), Box<dyn Error>> {
     let words: Vec<String> = env::args().skip(1).collect();
@@ -57,15 +59,5 @@ fn show_cell(shown: &mut Shown, cell: &Cell) {
     shown.row(cell.rowid() as u64);
     for value in cell.values() {
         show(shown, value);
-    }
-}
-
-fn show(shown: &mut Shown, value: Value) {
-    shown.values += 1;
-    match value {
-        Value::Null => {}
-        Value::Integer(number) => shown.integer(number),
-        Value::Real(x) => shown.real(x.to_bits()),
-        Value::Text(bytes) | Value::Blob(bytes) => shown.bytes(bytes),
     }
 }

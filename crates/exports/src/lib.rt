@@ -15,6 +15,8 @@ ghost use Rattle.pages.specs.Pages.{shareOf, openOf};
 ghost use Rattle.filled.specs.Run.{filledBy, over};
 ghost use Rattle.filled.specs.Row.{rowBy, rowOver};
 ghost use Rattle.gathered.specs.Rows.{rowLent, tableLent, bufferLent};
+ghost use Rattle.chosen.specs.Chosen.{chosenBy};
+ghost use Rattle.screen.specs.Screen.{screened, answersOver};
 ghost use Rattle.exports.specs.Calls.{headerOf, pagesOf, countedRows, listedRows, rowsOver, countedTrusted, listedTrusted, trustedOver, headOf, entryOf, entriesOver, openingOf, rowIn, oldCell, fileCell, guardedCell, oldRun, fileRun, oldShownOf, fileShownOf, guardedShownOf, fileLentOf, guardedLentOf, cellLent};
 use columns::Cursor;
 use filled::run;
@@ -35,6 +37,7 @@ use turns::types::Opening;
 use turns::types::PageHead;
 use turns::types::Pages;
 use turns::types::Row;
+use turns::types::Screened;
 use turns::types::Shown;
 
 // THE DATABASE AND ITS PAGES, by the number of the reading: 0 is old, any other number file
@@ -243,6 +246,24 @@ pub extern "C" fn shorgavel_guarded_value(db: &[u8], number: u32, i: usize, k: u
     ensures { λ r. ⌜ r ≡ guardedShownOf number i k (now (db .entry)) ⌝ }
 {
     shown::file_shown(guarded::value(db, number, i, k))
+}
+
+// A SCREENFUL AT ONCE, by the number of the reading: 0 is old, 2 guarded, any other number file
+
+// The value at each address of a list, as the call on one value answers it: in three words an address (`screen`), in eight an
+// answer, a `turns::types::Shown`. What is refused stops no other. A list of answers with fewer places is refused before anything
+// is read, and left as it was; so are the places behind the last answer.
+#[no_mangle]
+pub extern "C" fn shorgavel_screen(
+    db: &[u8],
+    reading: u8,
+    addresses: &[u64],
+    answers: &mut [i64],
+) -> Screened
+    ensures { λ r. ⌜ (r ≡ screened (length (now (answers .entry))) (length (now (addresses .entry))))
+        × (now (answers .exit) ≡ answersOver (chosenBy reading) (now (db .entry)) (now (addresses .entry)) (now (answers .entry))) ⌝ }
+{
+    screen::screen(db, chosen::chosen_of(reading), addresses, answers)
 }
 
 // WITH A GATHER BUFFER LENT, where a payload that spills is gathered: the bytes of a text or a blob are then the buffer's. The

@@ -11,10 +11,11 @@ use Rattle.laws.specs.Pick.{pick}
 use Rattle.reading.specs.declared.Reading.{Reading}
 use Rattle.columns.specs.declared.Cursor.{Cursor}
 use Rattle.columns.specs.Columns.{behind}
-use Rattle.filled.specs.Run.{Run, run, before, wordsOf, valueAt, runFrom, filledBy}
-use Rattle.filled.specs.Whole.{Whole}
+use Rattle.turns.specs.Words.{wordsOf, valueAt}
+use Rattle.filled.specs.Run.{Run, run, before, runFrom, filledBy}
+use Rattle.checked.specs.Whole.{Whole}
 use Rattle.filled.proofs.Filling.{run-done, run-full, run-more}
-use Rattle.filled.proofs.Checked.{Left, at-first, Next, next, none-left}
+use Rattle.checked.proofs.Laws.{Left, at-first, Next, next, none-left}
 
 abbrev countIn : Run → ℕ
 countIn (run n c words) = n

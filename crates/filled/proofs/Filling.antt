@@ -11,7 +11,8 @@ use Rattle.columns.specs.declared.Cursor.{Cursor}
 use Rattle.columns.specs.declared.Stepped.the-variants.{Column, Done}
 use Rattle.columns.specs.Columns.{stepOf}
 use Rattle.turns.specs.Rows.{filledOf}
-use Rattle.filled.specs.Run.{Run, run, before, wordsOf, valueAt, runFrom, filledBy, over}
+use Rattle.turns.specs.Words.{wordsOf, valueAt}
+use Rattle.filled.specs.Run.{Run, run, before, runFrom, filledBy, over}
 
 -- RUNS
 

@@ -27,8 +27,9 @@ use Rattle.turns.specs.declared.types.Value.{Value}
 use Rattle.filled.specs.declared.whole.Manner.{Manner}
 use Rattle.turns.specs.Shown.{empty, longOf}
 use Rattle.turns.specs.Shown.{oldValue, fileValue}
-use Rattle.filled.specs.Run.{wordsOf, valueAt}
-use Rattle.filled.specs.Whole.{mannerOf, longFrom, valueBy, bytesIn}
+use Rattle.turns.specs.Words.{wordsOf, valueAt}
+use Rattle.checked.specs.Whole.{bytesIn}
+use Rattle.filled.specs.Manners.{mannerOf, longFrom, valueBy}
 
 -- a type that is known to be k, of fixed width, has as many bytes as k, and is stored as k is
 pub bytes-as : (serial : ℕ) {k : ℕ} → serial ≡ k → k < 10 → bytesIn (widthOf serial) ≡ getD widths k 0

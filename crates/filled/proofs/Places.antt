@@ -14,7 +14,8 @@ use Rattle.columns.specs.declared.Slot.the-variants.{Found}
 use Rattle.columns.specs.Columns.{slotOf, stepOf}
 use Rattle.columns.proofs.Laws.{slot-done, slot-here, slot-next, stepped}
 use Rattle.turns.specs.declared.types.Value.{Value}
-use Rattle.filled.specs.Run.{Run, run, before, wordsOf, valueAt, runFrom, over}
+use Rattle.turns.specs.Words.{wordsOf, valueAt}
+use Rattle.filled.specs.Run.{Run, run, before, runFrom, over}
 use Rattle.filled.proofs.Filling.{run-more}
 
 -- five words behind k times five

@@ -1,3 +1,3 @@
 pub mod Run
-pub mod Whole
+pub mod Manners
 pub mod Row

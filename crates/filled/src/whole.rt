@@ -3,13 +3,16 @@ ghost use mathlib.Core.Path.{_≡_};
 ghost use Prim.Native.Nat.{_+_, _/_, _^_, _≤_, _<_};
 ghost use lib.ListN.{length};
 ghost use lib.Seq.{sets};
-ghost use Rattle.varint.specs.Varint.{varintOf};
 ghost use Rattle.serial.specs.Serial.{lengthOf, widthOf};
 ghost use Rattle.serial.specs.declared.Width.the-variants.{Bytes};
 ghost use Rattle.turns.specs.Shown.{integerOf};
-ghost use Rattle.filled.specs.Run.{wordsOf, runFrom, filledBy, over};
-ghost use Rattle.filled.specs.Whole.{Whole, mannerOf, longFrom, valueBy, bytesIn, numberBy, movedTo};
+ghost use Rattle.turns.specs.Words.{wordsOf};
+ghost use Rattle.filled.specs.Run.{runFrom, filledBy, over};
+ghost use Rattle.checked.specs.Whole.{Whole, bytesIn};
+ghost use Rattle.filled.specs.Manners.{mannerOf, longFrom, valueBy, movedTo};
 use crate::words;
+use checked::type_in;
+use checked::width_in;
 use columns::Cursor;
 use fields::be_i8;
 use fields::be_i16;
@@ -19,7 +22,6 @@ use fields::be_i64;
 use fields::be_u64;
 use fields::load_i48;
 use reading::Reading;
-use serial::Width;
 use turns::rows::filled_of;
 use turns::shown::empty_value;
 use turns::shown::integer_of;
@@ -27,8 +29,6 @@ use turns::shown::long_of;
 use turns::shown::real_of;
 use turns::types::Filled;
 use turns::types::Value;
-use varint::Number;
-use varint::Varint;
 
 // How the readings differ in values: the widths of integers, what type 9 shows, and the first type that shows bytes.
 pub struct Manner {
@@ -121,32 +121,6 @@ fn put_value(
         8 => put_integer(table, place, manner.i8, 0, at),
         9 => put_integer(table, place, manner.i8, manner.one, at),
         _ => put_long(table, place, manner.least, serial, at),
-    }
-}
-
-// The type that begins `s`. A row that was checked has one, so there is nothing to answer for none; and it was found within its
-// reading's limit, so that the larger one finds it in both.
-fn type_in(s: &[u8]) -> Number
-    ensures { λ r. ⌜ r ≡ numberBy (varintOf 9 (now (s .entry))) ⌝ }
-{
-    let found = varint::read(s, varint::FILE_LIMIT);
-    match found {
-        Varint::Value(number) => number,
-        Varint::Unfinished(_) => Number {
-            value: 0,
-            length: 0,
-        },
-    }
-}
-
-// How many bytes its value has, of a type that has a width.
-fn width_in(serial: u64) -> u64
-    ensures { λ r. ⌜ r ≡ bytesIn (widthOf serial) ⌝ }
-{
-    let width = serial::width_of(serial);
-    match width {
-        Width::Bytes(bytes) => bytes,
-        Width::Reserved => 0,
     }
 }
 

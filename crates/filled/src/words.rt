@@ -6,7 +6,7 @@ ghost use mathlib.Core.Path.{_≡_};
 ghost use Prim.Native.Nat.{_+_, _*_, _/_, _^_, _≤_, _<_};
 ghost use lib.ListN.{length};
 ghost use lib.Seq.{sets};
-ghost use Rattle.filled.specs.Run.{wordsOf, valueAt};
+ghost use Rattle.turns.specs.Words.{wordsOf, valueAt};
 use fields::signed_of;
 use parts::behind;
 use reading::Reading;

@@ -8,8 +8,8 @@ use Rattle.record.specs.Types.{count}
 use Rattle.cell.proofs.Inside.{Held}
 use Rattle.spilled.specs.Lent.{Spilled, cursorOver}
 use Rattle.spilled.proofs.Values.{cursor-over}
-use Rattle.filled.specs.Whole.{Whole}
-use Rattle.filled.proofs.Found.{held-whole}
+use Rattle.checked.specs.Whole.{Whole}
+use Rattle.checked.proofs.Found.{held-whole}
 
 pub spilled-whole : (c : Spilled) → Held file (c .payload) (c .cell) → length (c .payload) ≡ c .cell .payload
     → Whole (cursorOver (c .cell)) (count (c .cell .types)) (c .payload)

@@ -50,12 +50,13 @@ use Rattle.turns.specs.Refusals.{accepted, refusedBy}
 use Rattle.row_head.specs.Head.{shortestBy}
 use Rattle.turns.specs.Rows.{cellBy}
 use Rattle.sources.specs.Lent.{lentShown}
-use Rattle.filled.specs.Run.{wordsOf, valueAt, runFrom}
-use Rattle.filled.proofs.Checked.{whole-found}
+use Rattle.turns.specs.Words.{wordsOf, valueAt}
+use Rattle.filled.specs.Run.{runFrom}
+use Rattle.checked.proofs.Laws.{whole-found}
 use Rattle.filled.proofs.Counted.{whole-count}
 use Rattle.filled.proofs.Places.{fiveAt, wordsIn, place-holds, over-run}
 use Rattle.gathered.specs.Rows.{lentIn, rowLent, tableLent}
-use Rattle.filled.proofs.Found.{in-place}
+use Rattle.checked.proofs.Found.{in-place}
 use Rattle.gathered.proofs.Found.{spilled-whole}
 use Rattle.long_rows.specs.Agreement.{openedBy, valueBy, cellIn, columnsOf, RowShows, AsManyAsFit, NoneBehind, RefusedAlike, SameCell, CellsAgree}
 

@@ -35,7 +35,7 @@ use Rattle.turns.specs.Refusals.{accepted}
 use Rattle.row_head.specs.Head.{shortestBy}
 use Rattle.turns.specs.Rows.{cellBy}
 use Rattle.sources.specs.Lent.{lentShown}
-use Rattle.filled.specs.Run.{wordsOf}
+use Rattle.turns.specs.Words.{wordsOf}
 use Rattle.gathered.specs.Rows.{lentIn, rowLent, tableLent}
 
 -- SINGLE CALLS, in the guarded reading or in the file reading

@@ -44,12 +44,13 @@ use Rattle.turns.specs.Refusals.{accepted}
 use Rattle.pages.specs.Pages.{readingOf, openingBy, openOf}
 use Rattle.turns.specs.declared.types.Cell.{Cell}
 use Rattle.turns.specs.Shown.{oldShown, fileShown}
-use Rattle.filled.specs.Run.{valueAt, runFrom}
+use Rattle.turns.specs.Words.{valueAt}
+use Rattle.filled.specs.Run.{runFrom}
 use Rattle.exports.specs.Calls.{openingOf, rowIn, cellFor}
 use Rattle.same_rows.specs.Agreement.{cellIn, shownOf, cellFrom, CellsAgree, RowShows, AsManyAsFit}
 use Rattle.filled.proofs.Counted.{whole-count}
 use Rattle.filled.proofs.Places.{wordsIn, place-holds, over-run}
-use Rattle.filled.proofs.Checked.{whole-found}
+use Rattle.checked.proofs.Laws.{whole-found}
 use Rattle.filled.proofs.Found.{found-whole}
 use Rattle.pages.proofs.Back.{Behind, page-behind}
 

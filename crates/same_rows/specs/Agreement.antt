@@ -17,7 +17,7 @@ use Rattle.turns.specs.declared.types.Cell.{Cell}
 use Rattle.turns.specs.declared.types.Shown.{Shown}
 use Rattle.turns.specs.Refusals.{accepted}
 use Rattle.turns.specs.Rows.{noCell, cellOf}
-use Rattle.filled.specs.Run.{wordsOf}
+use Rattle.turns.specs.Words.{wordsOf}
 use Rattle.filled.specs.Row.{rowBy, rowOver}
 use Rattle.exports.specs.Calls.{openingOf, rowIn, oldCell, fileCell, guardedCell, oldShownOf, fileShownOf, guardedShownOf}
 

@@ -1,3 +1,4 @@
 pub mod Refusals
 pub mod Rows
 pub mod Shown
+pub mod Words

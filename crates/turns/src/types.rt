@@ -106,6 +106,13 @@ pub struct Shown {
     pub value: Value,
 }
 
+// How many answers a list was filled with.
+#[repr(C)]
+pub struct Screened {
+    pub refused: Refused,
+    pub count: usize,
+}
+
 // How many values a table was filled with, and the cursor behind the last.
 #[repr(C)]
 pub struct Filled {

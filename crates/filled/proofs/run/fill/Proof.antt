@@ -4,7 +4,7 @@ use mathlib.Core.Path.{_≡_, refl, sym, ap, _∙_, subst}
 use native.Mathlib.Omega.{arith}
 use lib.ListN.{length}
 use denote.Ref.{now}
-use Rattle.filled.specs.Run.{wordsOf}
+use Rattle.turns.specs.Words.{wordsOf}
 use Rattle.filled.proofs.Filling.{Held, at-first, one-more, all-stored, run-done, run-full}
 use borrow.Author.Needs.{needs}
 use Rattle.filled.proofs.run.fill.Statement.{statement}

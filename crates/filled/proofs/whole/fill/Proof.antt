@@ -7,11 +7,13 @@ use lib.ListN.{length, getD, take, drop}
 use denote.Ref.{now}
 use borrow.Author.Needs.{needs}
 use Rattle.serial.specs.declared.Width.the-variants.{Bytes}
-use Rattle.filled.specs.Whole.{valueBy, bytesIn}
+use Rattle.checked.specs.Whole.{bytesIn}
+use Rattle.filled.specs.Manners.{valueBy}
 use Rattle.filled.proofs.Filling.{Held}
 use Rattle.filled.proofs.Filling as filling
 use Rattle.columns.proofs.Laws.{type-within}
-use Rattle.filled.proofs.Checked.{Left, Next, at-first, next, byte-width, byte-value, byte-behind, long-width, long-room, long-value, long-behind, goes-on, comes-to-end, smaller}
+use Rattle.checked.proofs.Laws.{Left, Next, at-first, next, byte-width, long-width, long-room}
+use Rattle.filled.proofs.Checked.{byte-value, byte-behind, long-value, long-behind, goes-on, comes-to-end, smaller}
 use Rattle.filled.proofs.whole.fill.Statement.{statement}
 use Rattle.filled.proofs.whole.fill.Tie as tie
 

@@ -5,7 +5,7 @@ use mir.Syntax.{w64}
 use mir.Val.{toZ, ofZ}
 use denote.Ref.{now}
 use Rattle.turns.specs.Shown.{integerOf}
-use Rattle.filled.specs.Run.{wordsOf}
+use Rattle.turns.specs.Words.{wordsOf}
 use borrow.Author.Needs.{needs}
 use Rattle.filled.proofs.whole.put_integer.Statement.{statement}
 use Rattle.filled.proofs.whole.put_integer.Tie as tie

@@ -6,8 +6,8 @@ use denote.Ref.{now}
 use lib.Seq.{sets}
 use borrow.Author.Tests.{lt-ltb, le-ltb, eq-eqb, ne-eqb}
 use Rattle.serial.proofs.Laws.{length-either}
-use Rattle.filled.specs.Run.{wordsOf}
-use Rattle.filled.specs.Whole.{longFrom}
+use Rattle.turns.specs.Words.{wordsOf}
+use Rattle.filled.specs.Manners.{longFrom}
 use borrow.Author.Needs.{needs}
 use Rattle.filled.proofs.whole.put_long.Statement.{statement}
 use Rattle.filled.proofs.whole.put_long.Tie as tie

@@ -10,8 +10,8 @@ use denote.Ref.{now}
 use Rattle.laws.proofs.Casts.{widen-fits, widen-same}
 use Rattle.serial.proofs.Laws.{ten, width-past}
 use Rattle.turns.specs.Shown.{integerOf, realOf}
-use Rattle.filled.specs.Run.{wordsOf}
-use Rattle.filled.specs.Whole.{longFrom, valueBy}
+use Rattle.turns.specs.Words.{wordsOf}
+use Rattle.filled.specs.Manners.{longFrom, valueBy}
 use Rattle.filled.proofs.Manners.{bytes-as, stored-as, by-long}
 use borrow.Author.Needs.{needs}
 use Rattle.filled.proofs.whole.put_value.Statement.{statement}

@@ -1,9 +1,9 @@
 -- What is read, where there is something.
 use mathlib.Core.Path.{ap, sym, _∙_}
 use borrow.Author.Needs.{needs}
-use Rattle.filled.specs.Whole.{numberBy}
-use Rattle.filled.proofs.whole.type_in.Statement.{statement}
-use Rattle.filled.proofs.whole.type_in.Tie as tie
+use Rattle.checked.specs.Whole.{numberBy}
+use Rattle.checked.proofs.type_in.Statement.{statement}
+use Rattle.checked.proofs.type_in.Tie as tie
 
 read-requires : tie.Need-read-requires
 read-requires c κs = search needs

@@ -1,9 +1,9 @@
 -- The width, where there is one.
 use mathlib.Core.Path.{ap, sym, _∙_}
 use borrow.Author.Needs.{needs}
-use Rattle.filled.specs.Whole.{bytesIn}
-use Rattle.filled.proofs.whole.width_in.Statement.{statement}
-use Rattle.filled.proofs.whole.width_in.Tie as tie
+use Rattle.checked.specs.Whole.{bytesIn}
+use Rattle.checked.proofs.width_in.Statement.{statement}
+use Rattle.checked.proofs.width_in.Tie as tie
 
 width-of-requires : tie.Need-width-of-requires
 width-of-requires c κs = search needs

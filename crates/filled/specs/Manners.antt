@@ -1,40 +1,19 @@
--- A row whose record was checked: so many types stand before its cursor, and the value of each lies before its end. And how
--- the readings differ in the values that they show.
-use Prim.Native.Nat.{ℕ, _+_, _-_, _≤_}
-use mathlib.Core.Path.{_≡_}
+-- How the readings differ in the values that they show, and a cursor that is moved on.
+use Prim.Native.Nat.{ℕ, _+_}
 use mathlib.Core.List.{List}
 use lib.Dec.{ltb, eqb}
 use lib.IntN.{pos}
-use lib.ListN.{length, getD}
+use lib.ListN.{getD}
 use Rattle.laws.specs.Pick.{pick}
 use Rattle.fields.specs.Fields.{unsigned, signed}
-use Rattle.varint.specs.declared.Number.{Number}
-use Rattle.varint.specs.declared.Varint.{Varint}
-use Rattle.varint.specs.declared.Varint.the-variants as vi
-use Rattle.varint.specs.Varint.{number}
 use Rattle.tables.specs.Tables.{widths}
 use Rattle.reading.specs.declared.Reading.{Reading}
 use Rattle.reading.specs.declared.Reading.the-variants.{Old as old, File as file}
-use Rattle.serial.specs.declared.Width.{Width}
-use Rattle.serial.specs.declared.Width.the-variants as wi
 use Rattle.serial.specs.Serial.{isBlob, lengthOf}
-use Rattle.record.specs.Types.{count, walk}
-use Rattle.record.specs.Record.{judged}
-use Rattle.record.specs.declared.Fit.the-variants.{Fits}
 use Rattle.columns.specs.declared.Cursor.{Cursor}
-use Rattle.columns.specs.Columns.{typesAt}
 use Rattle.turns.specs.declared.types.Value.{Value}
 use Rattle.filled.specs.declared.whole.Manner.{Manner}
 use Rattle.turns.specs.Shown.{empty, integerOf, realOf, longOf}
-
--- n columns from the cursor on, all of them there
-pub record Whole (c : Cursor) (n : ℕ) (db : List ℕ) : Type 0 where
-  pub ordered : c .value ≤ c .end
-  pub within : c .end ≤ length db
-  pub header : c .stop ≤ length db
-  pub left : ℕ
-  pub fits : judged (c .reading) (typesAt c db) (walk 0 (c .end - c .value) (typesAt c db)) ≡ Fits (count (typesAt c db)) left
-  pub columns : count (typesAt c db) ≡ n
 
 -- the widths of integers, what type 9 shows, and the first type that shows bytes
 abbrev pub mannerOf : Reading → Manner
@@ -58,16 +37,6 @@ valueBy manner serial at s =
     (pick (eqb serial 8) (integerOf (manner .i8) (pos 0))
     (pick (eqb serial 9) (integerOf (manner .i8) (manner .one))
     (longFrom (manner .least) serial at))))))))
-
--- how many bytes a value has; 0 where that is not known
-abbrev pub bytesIn : Width → ℕ
-bytesIn (wi.Bytes w) = w
-bytesIn wi.Reserved = 0
-
--- a number that is there; 0 in no bytes where there is none
-abbrev pub numberBy : Varint → Number
-numberBy (vi.Value n) = n
-numberBy (vi.Unfinished cause) = number 0 0
 
 -- a cursor behind a type of n bytes, whose value ends at `value`
 abbrev pub movedTo : ℕ → ℕ → Cursor → Cursor
