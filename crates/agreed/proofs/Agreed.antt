@@ -18,8 +18,8 @@ use Rattle.guarded.specs.Guarded.{locatedOf}
 use Rattle.guarded.proofs.Guard.{guarded}
 use Rattle.walk.specs.declared.CountAnswer.{CountAnswer}
 use Rattle.walk.specs.declared.CountAnswer.the-variants as co
-use Rattle.walk.specs.Walk.{Row, rowsOf}
-use Rattle.walk.specs.Tree.{tableOf}
+use Rattle.trace.specs.Walk.{Row, rowsOf}
+use Rattle.trace.specs.Tree.{tableOf}
 use Rattle.walk.specs.Counted.{countOf}
 use Rattle.trees.specs.Trees.{Cell, Each}
 use Rattle.trees.proofs.Places.{are-cells}

@@ -6,8 +6,8 @@ use mathlib.Core.Logic.{_⊎_}
 use Rattle.answers.specs.declared.Refusal.{Refusal}
 use Rattle.walk.specs.declared.CountAnswer.{CountAnswer}
 use Rattle.walk.specs.declared.CountAnswer.the-variants.{Shown, Refused}
-use Rattle.walk.specs.Walk.{Row, rowsOf}
-use Rattle.walk.specs.Tree.{tableOf}
+use Rattle.trace.specs.Walk.{Row, rowsOf}
+use Rattle.trace.specs.Tree.{tableOf}
 use Rattle.walk.specs.Counted.{countOf}
 use Rattle.trees.specs.Trees.{Each}
 use Rattle.agreement.specs.Shows as shows

@@ -21,10 +21,10 @@ use Rattle.place.specs.declared.Page.{Page}
 use Rattle.place.specs.Place.{oldPage, filePage, pageAt}
 use Rattle.place.proofs.Laws.{page-length}
 use Rattle.page.specs.declared.Open.{Open}
-use Rattle.page.specs.Kinds.{pointersEnd}
+use Rattle.page.specs.Head.{pointersEnd}
 use Rattle.page.specs.Open.{openOf}
 use Rattle.page.proofs.Opened.{Opened}
-use Rattle.page.proofs.Sites.{open-page}
+use Rattle.page.proofs.Steps.{open-page}
 use Rattle.cells.specs.Pointers.{outside, partAt}
 use Rattle.cells.specs.Located.{Located, locatedIn, locatedOf}
 use Rattle.cells.proofs.Laws.{Held, held, held-again, located-open}

@@ -13,12 +13,14 @@ use Rattle.shape.specs.declared.Shape.{Shape}
 use Rattle.place.specs.Place.{oldPage, filePage, pageAt}
 use Rattle.place.proofs.Laws.{old-place}
 use Rattle.shape.proofs.Laws.{shapeIn, shape-passed, shape-shown}
-use Rattle.page.specs.declared.KindAnswer.the-variants.{Known}
-use Rattle.page.specs.declared.Site.{Site}
+use Rattle.site.specs.declared.KindAnswer.the-variants.{Known}
+use Rattle.site.specs.declared.Site.{Site}
 use Rattle.page.specs.declared.Open.{Open}
-use Rattle.page.specs.Kinds.{kindAt}
-use Rattle.page.specs.Open.{siteOf, openFrom, openOf}
-use Rattle.page.proofs.Sites.{sited, site-again, site-end, opening, open-again, open-site, steps}
+use Rattle.site.specs.Kinds.{kindAt}
+use Rattle.site.specs.Site.{siteOf}
+use Rattle.page.specs.Open.{openFrom, openOf}
+use Rattle.site.proofs.Sites.{sited, site-again, site-end}
+use Rattle.page.proofs.Steps.{opening, open-again, open-site, steps}
 
 -- as the old reading has it: its cells may go on to the page's end
 abbrev siteAsOld : ℕ → Site → Site

@@ -18,9 +18,9 @@ use Rattle.marks.specs.declared.Marking.{Marking}
 use Rattle.marks.specs.declared.Marking.the-variants.{Clear, By}
 use Rattle.marks.specs.Marks.{some, longVarint, storedOne, emptyValue, markOf}
 use Rattle.place.specs.Place.{filePage}
-use Rattle.page.specs.declared.Site.{Site}
+use Rattle.site.specs.declared.Site.{Site}
 use Rattle.page.specs.declared.Open.{Open}
-use Rattle.page.specs.Open.{siteOf}
+use Rattle.site.specs.Site.{siteOf}
 use Rattle.cells.specs.Located as cells
 use Rattle.cells.specs.Located.{Located}
 use Rattle.row.specs.declared.CursorAnswer.the-variants as cu

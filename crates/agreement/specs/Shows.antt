@@ -5,7 +5,7 @@ use Prim.Native.Nat.{ℕ, zero, suc}
 use mathlib.Core.List.{List, [], _∷_}
 use lib.IntN.{ℤ}
 use Rattle.answers.specs.declared.Refusal.{Refusal}
-use Rattle.values.specs.Part.{partOf}
+use Rattle.parts.specs.Part.{partOf}
 use Rattle.values.specs.declared.old.Value as ov
 use Rattle.values.specs.declared.old.Value.the-variants as ol
 use Rattle.values.specs.declared.file.Value as fv

@@ -32,10 +32,11 @@ use Rattle.place.specs.declared.Page.{Page}
 use Rattle.place.specs.Place.{pageAt}
 use Rattle.place.proofs.Laws.{page-length}
 use Rattle.page.specs.declared.Open.{Open}
-use Rattle.page.specs.Kinds.{pointersEnd}
-use Rattle.page.specs.Open.{onPage, openOf, liesIn}
+use Rattle.page.specs.Head.{pointersEnd}
+use Rattle.site.specs.Site.{onPage}
+use Rattle.page.specs.Open.{openOf, liesIn}
 use Rattle.page.proofs.Opened.{Opened, lies-opened, opened-lies}
-use Rattle.page.proofs.Sites.{open-page}
+use Rattle.page.proofs.Steps.{open-page}
 use Rattle.cells.specs.declared.Located as dl
 use Rattle.cells.specs.declared.LocatedAnswer.{LocatedAnswer}
 use Rattle.cells.specs.declared.LocatedAnswer.the-variants as la

@@ -16,7 +16,8 @@ use Rattle.cell.specs.Cell.{Cell, told}
 use Rattle.place.specs.declared.Page.{Page}
 use Rattle.place.specs.Place.{pageAt}
 use Rattle.page.specs.declared.Open.{Open}
-use Rattle.page.specs.Open.{onPage, openOf, liesIn}
+use Rattle.site.specs.Site.{onPage}
+use Rattle.page.specs.Open.{openOf, liesIn}
 use Rattle.cells.specs.declared.LocatedAnswer.{LocatedAnswer}
 use Rattle.cells.specs.declared.LocatedAnswer.the-variants as la
 use Rattle.cells.specs.Pointers.{pointerAt, partAt, cellAt}

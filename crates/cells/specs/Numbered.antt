@@ -13,7 +13,8 @@ use Rattle.cell.specs.declared.Numbers.{Numbers}
 use Rattle.cell.specs.Numbers.{numbersOf}
 use Rattle.place.specs.Place.{pageAt}
 use Rattle.page.specs.declared.Open.{Open}
-use Rattle.page.specs.Open.{onPage, liesIn}
+use Rattle.site.specs.Site.{onPage}
+use Rattle.page.specs.Open.{liesIn}
 use Rattle.cells.specs.declared.NumberedAnswer.{NumberedAnswer}
 use Rattle.cells.specs.declared.NumberedAnswer.the-variants as na
 use Rattle.cells.specs.Pointers.{pointerAt, outside, partAt}

@@ -14,7 +14,7 @@ use Rattle.answers.specs.declared.Fault.the-variants as fa
 use Rattle.answers.specs.Answer.{Answer, refused}
 use Rattle.cell.specs.Cell.{Cell, cellOf}
 use Rattle.page.specs.declared.Open.{Open}
-use Rattle.page.specs.Kinds.{pointersAt, pointersEnd}
+use Rattle.page.specs.Head.{pointersAt, pointersEnd}
 
 -- pointer i counts from the page's first byte, also on the first page
 abbrev pub pointerAt : Open → ℕ → List ℕ → ℕ

@@ -5,11 +5,11 @@
 ghost use mathlib.Core.Path.{_≡_};
 ghost use Prim.Native.Nat.{_≤_, _<_};
 ghost use Rattle.answers.specs.declared.Refusal.the-variants.{InCell};
-ghost use Rattle.page.specs.Kinds.{pointersEnd};
-ghost use Rattle.page.specs.Open.{onPage};
+ghost use Rattle.page.specs.Head.{pointersEnd};
+ghost use Rattle.site.specs.Site.{onPage};
 ghost use Rattle.cell.specs.Cell.{answerOf};
 ghost use Rattle.cells.specs.Pointers.{pointerAt, outside, cellAt, Fitting};
-ghost use Rattle.cells.specs.Located.{rowNumber, locatedFrom, locatedIn, locatedOf, locatedAnswer, partIn};
+ghost use Rattle.cells.specs.Located.{rowNumber, locatedFrom, locatedIn, locatedAnswer, partIn};
 ghost use Rattle.cells.specs.Numbered.{numbersFrom, numbersIn, numberedAnswer};
 use answers::Fault;
 use answers::Reason;
@@ -21,7 +21,6 @@ use cell::NumbersAnswer;
 use fields::be_u16;
 use kinds::Kind;
 use page::Open;
-use page::OpenAnswer;
 use place::Page;
 use reading::Reading;
 
@@ -137,17 +136,6 @@ pub fn cell_in(db: &[u8], opened: Open, i: usize) -> LocatedAnswer
         return located_in(place::bytes_of(db, opened.at, opened.size), opened, i);
     }
     absent(opened.page, Reason::PageAbsent)
-}
-
-// Cell `i` of a page, and no other cell.
-pub fn cell_at(db: &[u8], page: Page, i: usize) -> LocatedAnswer
-    ensures { λ r. ⌜ r ≡ locatedAnswer (locatedOf page i (now (db .entry))) ⌝ }
-{
-    let answer = page::open_page(db, page);
-    match answer {
-        OpenAnswer::Refused(refusal) => LocatedAnswer::Refused(refusal),
-        OpenAnswer::Shown(opened) => cell_in(db, opened, i),
-    }
 }
 
 // The part of an opened page that begins at the pointer of cell `i`; no bytes where there is no such cell.

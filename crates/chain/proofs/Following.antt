@@ -9,11 +9,12 @@ use lib.Seq.{length-take-le, take-nil, take-take}
 use Rattle.fields.specs.Fields.{unsigned}
 use Rattle.shape.specs.declared.Shape.{Shape}
 use Rattle.place.specs.declared.Place.the-variants.{At, Absent}
-use Rattle.chain.specs.Chain.{chainOf}
-use Rattle.chain.specs.Copied.{Shaped, whole, content, laidAt}
+use Rattle.links.specs.Links.{chainOf}
+use Rattle.links.specs.Whole.{Shaped, whole, content}
+use Rattle.chain.specs.Copied.{laidAt}
 use Rattle.chain.proofs.Copies.{laid-nothing, laid-on, laid-length}
-use Rattle.chain.proofs.Steps.{lies, contentAt, page-within, content-length, content-end, chain-absent}
-use Rattle.chain.proofs.Steps.{whole-next, content-next}
+use Rattle.links.proofs.Steps.{lies, contentAt, page-within, content-length, content-end, chain-absent}
+use Rattle.links.proofs.Steps.{whole-next, content-next}
 
 module _ (shape : Shape) (db : List ℕ) (size : ℕ) where
   -- what is left of the chain, laid over the buffer from here on

@@ -23,8 +23,8 @@ use Rattle.shape.proofs.Laws.{shape-shown, end-within}
 use Rattle.page.specs.declared.Open.{Open}
 use Rattle.cells.specs.Located.{partIn}
 use Rattle.cells.specs.Numbered.{numbersIn}
-use Rattle.chain.specs.Chain.{payloadOf}
-use Rattle.chain.specs.Copied.{Shaped, whole}
+use Rattle.chain.specs.Payload.{payloadOf}
+use Rattle.links.specs.Whole.{Shaped, whole}
 use Rattle.chain.specs.Gathered.{Gathered, gatheredWith, gatheredIn, payloadAnswer}
 use Rattle.chain.proofs.Payloads.{kept, chain, joined, payload-short, payload-cut, payload-unfit, payload-joined}
 use Rattle.chain.proofs.Payloads.{joined-length}

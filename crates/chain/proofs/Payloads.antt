@@ -14,12 +14,13 @@ use Rattle.answers.specs.Answer.{Answer, refused, shown, _>>=_}
 use Rattle.kinds.specs.declared.Kind.{Kind}
 use Rattle.shape.specs.declared.Shape.{Shape}
 use Rattle.kept.specs.Kept.{keptOf, linksOf}
-use Rattle.chain.specs.Chain.{chainFrom, payloadOf}
+use Rattle.chain.specs.Payload.{chainFrom, payloadOf}
 use Rattle.chain.specs.Gathered.{laid}
-use Rattle.chain.specs.Copied.{Shaped, whole, content, laidAt}
+use Rattle.links.specs.Whole.{Shaped, whole, content}
+use Rattle.chain.specs.Copied.{laidAt}
 use Rattle.chain.proofs.Copies.{laid-on}
 use Rattle.kept.proofs.Sizes.{links-hold}
-use Rattle.chain.proofs.Steps.{whole-shown, chain-unfit, chain-length}
+use Rattle.links.proofs.Steps.{whole-shown, chain-unfit, chain-length}
 
 module _ (k : Kind) (shape : Shape) (p : ℕ) (s db : List ℕ) where
   abbrev pub kept : ℕ

@@ -12,12 +12,12 @@ use Rattle.cell.specs.declared.Payload.{Payload}
 use Rattle.cell.specs.declared.Payload.the-variants as pa
 use Rattle.shape.specs.Shape.{shapeOf}
 use Rattle.page.specs.declared.Open.{Open}
-use Rattle.page.specs.Open.{ofDatabase}
+use Rattle.site.specs.Site.{ofDatabase}
 use Rattle.cells.specs.Located.{inCell, partIn}
 use Rattle.cells.specs.Numbered.{numbersIn}
 use Rattle.chain.specs.declared.GatherAnswer.{GatherAnswer}
 use Rattle.chain.specs.declared.GatherAnswer.the-variants as ga
-use Rattle.chain.specs.Chain.{payloadOf}
+use Rattle.chain.specs.Payload.{payloadOf}
 
 -- the numbers before the payload, and the payload
 pub record Gathered : Type 0 where

@@ -1,3 +1,3 @@
-pub mod Chain
+pub mod Payload
 pub mod Gathered
 pub mod Copied

@@ -1,17 +1,18 @@
-// The overflow chain of a payload that spills: the pages that hold what does not stay on its own, and the payload gathered from them.
+// A payload that spills, gathered from its page and its overflow chain.
 //
-// From the file format, 1.7 "Cell Payload Overflow Pages"; how much stays on the page is in `kept`. A chain has as many pages as the payload's
-// size says, so one that runs in a circle ends too; it is followed to its end before a byte of it is copied, so that a
-// buffer is left as it was where the chain is refused.
+// From the file format, 1.7 "Cell Payload Overflow Pages"; how much stays on the page is in `kept`, the chain page by page in `links`. It is
+// followed to its end before a byte of it is copied, so that a buffer is left as it was where the chain is refused.
 ghost use mathlib.Core.Path.{_≡_};
 ghost use mathlib.Core.Bool.{true};
 ghost use Prim.Native.Nat.{_+_, _-_, _≤_};
 ghost use lib.ListN.{length, take};
 ghost use Rattle.answers.specs.declared.Refusal.the-variants.{InCell};
 ghost use Rattle.chain.specs.declared.GatherAnswer.the-variants.{Refused};
-ghost use Rattle.chain.specs.Chain.{chainOf, payloadOf};
+ghost use Rattle.links.specs.Links.{chainOf};
+ghost use Rattle.links.specs.Whole.{Shaped, whole, content};
+ghost use Rattle.chain.specs.Payload.{payloadOf};
 ghost use Rattle.chain.specs.Gathered.{gatheredWith, heldBy, bufferBy, payloadAnswer, gatherAnswer};
-ghost use Rattle.chain.specs.Copied.{Shaped, whole, content, laidAt};
+ghost use Rattle.chain.specs.Copied.{laidAt};
 use answers::Fault;
 use answers::Refusal;
 use cell::Numbers;
@@ -37,24 +38,6 @@ fn in_cell(page: u32, cell: usize, fault: Fault) -> GatherAnswer
     ensures { λ r. ⌜ r ≡ Refused (InCell page cell fault) ⌝ }
 {
     GatherAnswer::Refused(Refusal::InCell { page, cell, fault })
-}
-
-// Whether so many pages of a chain lie in the file, and it ends behind them.
-fn is_whole(db: &[u8], shape: Shape, first: u32, links: u64) -> bool
-    requires { ⌜ Shaped shape ⌝ }
-    ensures { λ r. ⌜ r ≡ whole (chainOf links shape first (now (db .entry))) ⌝ }
-{
-    let mut number = first;
-    let mut left = links;
-    while 0 < left {
-        let place = place::place_of(db.len(), shape, place::file(number));
-        let Place::At { at, from: _ } = place else {
-            return false;
-        };
-        number = be_u32(&db[at..]);
-        left -= 1;
-    }
-    number == 0
 }
 
 // Lays bytes over those of a buffer from `at` on, by way of an array: since that lies apart from both, the compiler makes one
@@ -127,7 +110,7 @@ fn gather(db: &[u8], shape: Shape, kind: Kind, p: u64, s: &[u8], buffer: &mut [u
     }
     let first = be_u32(&s[kept as usize..]);
     let links = kept::links_of(shape.end, less(p, kept));
-    if !is_whole(db, shape, first, links) {
+    if !links::is_whole(db, shape, first, links) {
         return Payload::Faulty(Fault::ChainUnfit);
     }
     let size = p as usize;

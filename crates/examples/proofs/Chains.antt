@@ -3,7 +3,7 @@ use mathlib.Core.Path.{refl}
 use Rattle.fields.specs.Fields.{be}
 use Rattle.place.specs.Place.{placeOf}
 use Rattle.kept.specs.Kept.{keptOf, linksOf}
-use Rattle.chain.specs.Chain.{chainOf}
+use Rattle.links.specs.Links.{chainOf}
 use Rattle.examples.specs.Chains.{cutAgain, CutsWorked, chainAgain, ChainsWorked}
 
 pub cuts-worked : CutsWorked

@@ -5,7 +5,7 @@ use Rattle.varint.specs.Varint.{scan}
 use Rattle.serial.specs.Serial.{widthOf}
 use Rattle.values.specs.Old as ov
 use Rattle.values.specs.File as fv
-use Rattle.values.specs.Part.{partOf}
+use Rattle.parts.specs.Part.{partOf}
 use Rattle.record.specs.Types.{types, walk}
 use Rattle.record.specs.Record.{fitted, recordOf}
 use Rattle.cell.specs.Numbers.{numbersOf}
@@ -15,6 +15,7 @@ use Rattle.marks.specs.Marks.{lowest}
 use Rattle.header.specs.Header.{fieldOf, pageSize, usable, checkedOf, sizesOf}
 use Rattle.place.specs.Place.{placeOf}
 use Rattle.shape.specs.Shape.{shapeOf}
+use Rattle.site.specs.Site as si
 use Rattle.page.specs.Open as po
 use Rattle.cells.specs.Pointers.{cellAt}
 use Rattle.cells.specs.Located as ce
@@ -27,5 +28,5 @@ use Rattle.agreement.specs.Shows.{oldShows, fileShows, guardedShows}
 use Rattle.examples.specs.Rows.{databaseOf, seenOf, Worked}
 
 pub worked : Worked
-unfolding seenOf databaseOf oldShows fileShows guardedShows ro.countOf ro.rowOf rc.columnOf rold.shownOf rfile.shownOf gu.openOf gu.locatedIn gu.locatedOf gu.countOf gu.rowOf gu.shownOf ce.locatedOf ce.locatedIn cellAt po.siteOf po.openFrom po.openOf placeOf shapeOf sizesOf checkedOf usable pageSize fieldOf lowest slotIn cellOf behind numbersOf recordOf fitted walk types partOf fv.valueOf ov.valueOf widthOf be twos scan
+unfolding seenOf databaseOf oldShows fileShows guardedShows ro.countOf ro.rowOf rc.columnOf rold.shownOf rfile.shownOf gu.openOf gu.locatedIn gu.locatedOf gu.countOf gu.rowOf gu.shownOf ce.locatedOf ce.locatedIn cellAt si.siteOf po.openFrom po.openOf placeOf shapeOf sizesOf checkedOf usable pageSize fieldOf lowest slotIn cellOf behind numbersOf recordOf fitted walk types partOf fv.valueOf ov.valueOf widthOf be twos scan
 worked = refl

@@ -10,7 +10,7 @@ use Rattle.kinds.specs.declared.Kind.{Kind}
 use Rattle.kinds.specs.declared.Kind.the-variants.{LeafTable, LeafIndex}
 use Rattle.shape.specs.declared.Shape.{Shape}
 use Rattle.kept.specs.Kept.{keptOf, linksOf}
-use Rattle.chain.specs.Chain.{chainOf}
+use Rattle.links.specs.Links.{chainOf}
 
 -- THE CUT: M is 39, X is 477 in a table and 102 in an index, a page of a chain holds 508
 

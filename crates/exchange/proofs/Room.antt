@@ -9,9 +9,10 @@ use Rattle.answers.specs.declared.Reason.the-variants.{TableTooShort}
 use Rattle.answers.specs.Answer.{shown}
 use Rattle.place.specs.declared.Page.{Page}
 use Rattle.page.specs.declared.Open.{Open}
-use Rattle.page.specs.Open.{openOf, onPage}
+use Rattle.site.specs.Site.{onPage}
+use Rattle.page.specs.Open.{openOf}
 use Rattle.page.proofs.Opened.{opened-lies}
-use Rattle.page.proofs.Sites.{open-page, open-fits}
+use Rattle.page.proofs.Steps.{open-page, open-fits}
 use Rattle.table.specs.Page.{pageIn, pageAnswer, pageFor, pageOf}
 use Rattle.exchange.specs.Run.{one, two}
 use Rattle.exchange.specs.Room.{HalfCounts}

@@ -8,7 +8,8 @@ use Rattle.answers.specs.declared.Reason.the-variants.{TableTooShort}
 use Rattle.answers.specs.Answer.{shown}
 use Rattle.place.specs.declared.Page.{Page}
 use Rattle.page.specs.declared.Open.{Open}
-use Rattle.page.specs.Open.{openOf, onPage}
+use Rattle.site.specs.Site.{onPage}
+use Rattle.page.specs.Open.{openOf}
 use Rattle.table.specs.declared.Entry.{Entry}
 use Rattle.table.specs.Page.{pageAnswer, pageOf}
 use Rattle.exchange.specs.Run.{Truck, asks, answer}

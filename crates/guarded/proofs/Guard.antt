@@ -14,11 +14,12 @@ use Rattle.marks.specs.declared.Marking.{Marking}
 use Rattle.marks.specs.declared.Marking.the-variants.{Clear, By}
 use Rattle.marks.specs.Marks.{markOf}
 use Rattle.place.specs.Place.{filePage}
-use Rattle.page.specs.declared.Site.{Site}
+use Rattle.site.specs.declared.Site.{Site}
 use Rattle.page.specs.declared.Open.{Open}
 use Rattle.page.specs.Open as page
-use Rattle.page.specs.Open.{onPage, siteOf, openFrom}
-use Rattle.page.proofs.Sites.{opening, open-site, steps}
+use Rattle.site.specs.Site.{onPage, siteOf}
+use Rattle.page.specs.Open.{openFrom}
+use Rattle.page.proofs.Steps.{opening, open-site, steps}
 use Rattle.cells.specs.Located as cells
 use Rattle.cells.specs.Located.{Located}
 use Rattle.cells.proofs.Laws.{located-open, located-unopened}

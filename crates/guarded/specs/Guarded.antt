@@ -17,7 +17,8 @@ use Rattle.marks.specs.Marks.{markOf}
 use Rattle.place.specs.declared.Page.{Page}
 use Rattle.place.specs.Place.{filePage}
 use Rattle.page.specs.declared.Open.{Open}
-use Rattle.page.specs.Open.{onPage, siteOf, openFrom}
+use Rattle.site.specs.Site.{onPage, siteOf}
+use Rattle.page.specs.Open.{openFrom}
 use Rattle.cells.specs.Located as cells
 use Rattle.cells.specs.Located.{Located}
 use Rattle.row_head.specs.declared.CountAnswer.{CountAnswer}

@@ -19,13 +19,13 @@ use kinds::Kind;
 use marks::Marking;
 use page::Open;
 use page::OpenAnswer;
-use page::SiteAnswer;
 use row::CursorAnswer;
 use row::FoundAnswer;
 use row::FoundCell;
 use row_head::CountAnswer;
 use row_head::RowNumberAnswer;
 use row_values::file::ValueAnswer;
+use site::SiteAnswer;
 use varint::Number;
 
 fn is_leaf_table(kind: Kind) -> bool
@@ -43,7 +43,7 @@ fn is_leaf_table(kind: Kind) -> bool
 pub fn open_page(db: &[u8], number: u32) -> OpenAnswer
     ensures { λ r. ⌜ r ≡ openAnswer (openOf number (now (db .entry))) ⌝ }
 {
-    let answer = page::site_of(db, place::file(number));
+    let answer = site::site_of(db, place::file(number));
     match answer {
         SiteAnswer::Refused(refusal) => OpenAnswer::Refused(refusal),
         SiteAnswer::Shown(site) => {

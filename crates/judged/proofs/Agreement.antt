@@ -10,12 +10,12 @@ use Rattle.answers.specs.Answer.{Answer, refused, shown, _>>=_}
 use Rattle.kinds.specs.declared.Kind.the-variants.{LeafTable}
 use Rattle.marks.specs.declared.Marking.{Marking}
 use Rattle.marks.specs.declared.Marking.the-variants.{Clear, By}
-use Rattle.marks.specs.Marks.{markOf}
+use Rattle.marks.specs.Marks.{markOf, orSpilled}
 use Rattle.place.specs.declared.Page.{Page}
 use Rattle.place.specs.Place.{filePage}
 use Rattle.page.specs.declared.Open.{Open}
 use Rattle.page.specs.Open.{openFrom, openOf}
-use Rattle.page.proofs.Sites.{open-page, open-site}
+use Rattle.page.proofs.Steps.{open-page, open-site}
 use Rattle.cells.specs.Located.{Located, locatedIn, locatedOf}
 use Rattle.cells.proofs.Laws.{held, located-open, located-unopened}
 use Rattle.guarded.specs.Guarded as guarded
@@ -37,8 +37,8 @@ module _ (o : Open) (i room : ℕ) (db : List ℕ) where
     λ refusal e. never cc,
     λ f mark e m.
         let g : gathered c ≡ f = cc in
-        let h : By (marked.orSpilled (markOf (c .cell))) ≡ By mark = rw (← g) at m in
-        let k : marked.orSpilled (markOf (c .cell)) ≡ mark = cc in
+        let h : By (orSpilled (markOf (c .cell))) ≡ By mark = rw (← g) at m in
+        let k : orSpilled (markOf (c .cell)) ≡ mark = cc in
         rw (k, same c refl),
     λ l e m. never cc,
   )

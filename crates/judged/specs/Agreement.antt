@@ -11,12 +11,12 @@ use Rattle.answers.specs.Answer.{Answer, refused, shown}
 use Rattle.kinds.specs.declared.Kind.the-variants.{LeafTable}
 use Rattle.marks.specs.declared.Marking.{Marking}
 use Rattle.marks.specs.declared.Marking.the-variants.{Clear, By}
-use Rattle.marks.specs.Marks.{markOf}
+use Rattle.marks.specs.Marks.{markOf, orSpilled}
 use Rattle.place.specs.declared.Page.{Page}
 use Rattle.place.specs.Place.{filePage}
-use Rattle.page.specs.declared.Site.{Site}
+use Rattle.site.specs.declared.Site.{Site}
 use Rattle.page.specs.declared.Open.{Open}
-use Rattle.page.specs.Open.{siteOf}
+use Rattle.site.specs.Site.{siteOf}
 use Rattle.cells.specs.Located.{Located, locatedOf}
 use Rattle.guarded.specs.Guarded as guarded
 use Rattle.spilled.specs.Lent.{Lent, whole, gathered, lentIn, lentOf}
@@ -32,7 +32,7 @@ AsWithNone = (page : Page) (i room : ℕ) (db : List ℕ)
 -- the lowest mark of a cell, of five
 abbrev pub lowestOf : Lent → Marking
 lowestOf (whole l) = markOf (l .cell)
-lowestOf (gathered c) = By (marked.orSpilled (markOf (c .cell)))
+lowestOf (gathered c) = By (orSpilled (markOf (c .cell)))
 
 -- y is refused exactly when x is, as x is, or when what x shows has a mark of five, with the lowest; else it is what x shows
 abbrev pub Judged : Page → ℕ → Answer Refusal Lent → Answer Refusal Located → Type 0

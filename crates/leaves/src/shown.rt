@@ -1,4 +1,5 @@
 // How a varint and a value are written.
+use parts::whole_part;
 use print::bits;
 use print::hex;
 use print::number;
@@ -9,7 +10,6 @@ use values::narrow::from_i8;
 use values::narrow::from_i16;
 use values::narrow::from_i32;
 use values::old;
-use values::part::part;
 use varint::Varint;
 
 // A varint and how many bytes it took.
@@ -62,5 +62,5 @@ fn real(kind: &[u8], b: u64) {
 
 fn long(kind: &[u8], s: &[u8], at: usize, len: usize) {
     text(kind);
-    hex(part(s, at, len));
+    hex(whole_part(s, at, len));
 }

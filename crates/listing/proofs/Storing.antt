@@ -7,7 +7,7 @@ use native.Mathlib.Omega.{arith}
 use lib.IntN.{ℤ}
 use lib.ListN.{length, length-append, set, drop}
 use lib.Seq.{sets, length-sets, sets-eq}
-use Rattle.walk.specs.Walk.{Row}
+use Rattle.trace.specs.Walk.{Row}
 use Rattle.listing.specs.Listed.{wordsOf, words}
 
 sets-on : (some more list : List ℤ) (at : ℕ) → sets list at (some ++ more) ≡ sets (sets list at some) (at + length some) more

@@ -11,8 +11,8 @@ use Rattle.answers.specs.declared.Reason.the-variants as re
 use Rattle.answers.specs.declared.Refusal.the-variants.{OnPage}
 use Rattle.walk.specs.declared.CountAnswer.{CountAnswer}
 use Rattle.walk.specs.declared.CountAnswer.the-variants.{Shown, Refused}
-use Rattle.walk.specs.Walk.{Row, rowsOf}
-use Rattle.walk.specs.Tree.{tableOf}
+use Rattle.trace.specs.Walk.{Row, rowsOf}
+use Rattle.trace.specs.Tree.{tableOf}
 use Rattle.walk.specs.Counted.{countOf}
 use Rattle.trust.specs.declared.Trust.{Trust}
 use Rattle.trust.specs.declared.Trust.the-variants as tr

@@ -15,9 +15,9 @@ use answers::Refusal;
 use fields::signed_of;
 use page::Open;
 use place::Page;
+use trace::Table;
 use trust::Trust;
 use walk::CountAnswer;
-use walk::Table;
 
 // Stores a row from a place on.
 fn put(list: &mut [i64], at: usize, page: u32, cell: usize, number: i64)

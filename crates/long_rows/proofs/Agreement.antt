@@ -24,7 +24,7 @@ use Rattle.columns.proofs.Extents.{found-none}
 use Rattle.place.specs.declared.Page.{Page}
 use Rattle.place.specs.Place.{filePage}
 use Rattle.page.specs.declared.Open.{Open}
-use Rattle.page.proofs.Sites.{open-page}
+use Rattle.page.proofs.Steps.{open-page, open-file}
 use Rattle.cells.specs.Located.{Located, rowNumber, locatedIn, locatedOf}
 use Rattle.cells.specs.Numbered.{numbersIn}
 use Rattle.cells.proofs.Laws.{held, located-open}
@@ -68,7 +68,8 @@ page-is true number db e = open-page (filePage number) db (leaf-opened number db
 page-is false number db e = open-page (filePage number) db e
 
 reading-is : (g : Bool) (number : ℕ) (db : List ℕ) {o : Open} → openedBy g number db ≡ shown o → o .page .reading ≡ file
-reading-is g number db e = ap (λ (p : Page). p .reading) (page-is g number db e)
+reading-is true number db e = open-file number db (leaf-opened number db e .0)
+reading-is false number db e = open-file number db e
 
 -- what the guarded reading shows is a cell on its page
 by-marked : (P : Lent → Type 0) (o : Open) (i room : ℕ) (db : List ℕ) {f : Lent} → lentIn true o i room db ≡ shown f

@@ -15,7 +15,8 @@ use Rattle.row.specs.declared.FoundCell.{FoundCell}
 use Rattle.spills.specs.declared.Source.{Source}
 use Rattle.spilled.specs.declared.LentAnswer.the-variants as le
 use Rattle.spilled.specs.Lent.{Spilled, gatheredBy, foundOver}
-use Rattle.marked.specs.Marked.{orSpilled, markedBy}
+use Rattle.marks.specs.Marks.{orSpilled}
+use Rattle.marked.specs.Marked.{markedBy}
 use Rattle.marked.specs.Steps.{markOver}
 use Rattle.spilled.proofs.Got.{Got}
 use Rattle.spilled.proofs.Values.{got-part}

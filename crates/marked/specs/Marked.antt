@@ -4,14 +4,10 @@ use Prim.Native.Nat.{ℕ}
 use mathlib.Core.List.{List}
 use lib.ListN.{length}
 use Rattle.answers.specs.declared.Fault.the-variants as fa
-use Rattle.answers.specs.declared.Mark.{Mark}
-use Rattle.answers.specs.declared.Mark.the-variants as ma
 use Rattle.answers.specs.declared.Refusal.{Refusal}
 use Rattle.answers.specs.declared.Refusal.the-variants.{InCell}
 use Rattle.answers.specs.Answer.{Answer, refused, shown, _>>=_}
-use Rattle.marks.specs.declared.Marking.{Marking}
-use Rattle.marks.specs.declared.Marking.the-variants.{Clear, By}
-use Rattle.marks.specs.Marks.{markOf}
+use Rattle.marks.specs.Marks.{markOf, orSpilled}
 use Rattle.page.specs.declared.Open.{Open}
 use Rattle.cells.specs.Located.{Located}
 use Rattle.chain.specs.Gathered.{gatheredIn}
@@ -22,10 +18,6 @@ use Rattle.spills.specs.declared.Source.the-variants.{Database}
 use Rattle.spilled.specs.declared.ValueAnswer.{ValueAnswer}
 use Rattle.spilled.specs.Lent.{Spilled, spilledIn, instead, bufferAfter}
 use Rattle.spilled.specs.Values.{from}
-
-abbrev pub orSpilled : Marking → Mark
-orSpilled Clear = ma.Spilled
-orSpilled (By mark) = mark
 
 -- why a spilled cell i is refused: as the file reading refuses it, or with its mark
 abbrev pub markedBy : ℕ → Answer Refusal Spilled → Refusal

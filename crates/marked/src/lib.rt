@@ -2,16 +2,16 @@
 // of five, so whatever is shown lies in the database.
 ghost use mathlib.Core.Path.{_≡_};
 ghost use lib.ListN.{length};
+ghost use Rattle.marks.specs.Marks.{orSpilled};
 ghost use Rattle.row.specs.Found.{foundBy};
 ghost use Rattle.chain.specs.Gathered.{gatheredIn, bufferBy};
-ghost use Rattle.marked.specs.Marked.{orSpilled, markedIn, lentIn, bufferIn, lentOf, bufferOf, valueOf};
+ghost use Rattle.marked.specs.Marked.{markedIn, lentIn, bufferIn, lentOf, bufferOf, valueOf};
 ghost use Rattle.marked.specs.Steps.{markOver};
 use answers::Fault;
 use answers::Mark;
 use answers::Refusal;
 use cell::Cell;
 use columns::Cursor;
-use marks::Marking;
 use page::Open;
 use page::OpenAnswer;
 use place::Page;
@@ -42,10 +42,7 @@ fn mark_of(payload: &[u8], found: FoundCell) -> Mark
         key.length,
         header.length,
     );
-    match lowest {
-        Marking::Clear => Mark::Spilled,
-        Marking::By(mark) => mark,
-    }
+    marks::or_spilled(lowest)
 }
 
 // Why a spilled cell is refused: as the file reading refuses it, or with its mark.

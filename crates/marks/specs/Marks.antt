@@ -1,10 +1,11 @@
 -- The marks of a table leaf record that the file reading accepts: why the old reading need not show the same of it. They are
--- the first four of docs/READINGS.md, and the lowest is given; the fifth is of a payload that spills (`spilled`).
+-- the first four of docs/READINGS.md, and the lowest is given; the fifth is of a payload that spills.
 use Prim.Native.Nat.{ℕ}
 use mathlib.Core.Bool.{Bool, false, not, _||_}
 use lib.Dec.{ltb, eqb}
 use Rattle.laws.specs.Pick.{pick}
 use Rattle.varint.specs.declared.Number.{Number}
+use Rattle.answers.specs.declared.Mark.{Mark}
 use Rattle.answers.specs.declared.Mark.the-variants as ma
 use Rattle.record.specs.Types.{Types, done, broken, column}
 use Rattle.cell.specs.Cell.{Cell}
@@ -47,3 +48,8 @@ lowest np nv own ts = lowestBy (longVarint np nv own ts) own (some storedOne ts)
 -- of a cell
 abbrev pub markOf : Cell → Marking
 markOf c = lowest (c .numbers .size .length) (c .numbers .key .length) (c .header .length) (c .types)
+
+-- of a cell whose payload spills: the fifth, where it has none of the four
+abbrev pub orSpilled : Marking → Mark
+orSpilled Clear = ma.Spilled
+orSpilled (By mark) = mark

@@ -1,10 +1,10 @@
 // The marks of a record: why the old reading need not show what the file reading shows of it.
 //
 // They are looked for in one pass over the types of a record that the file reading accepts, beside how many bytes its
-// other varints took. They are the first four of docs/READINGS.md; the fifth is of a payload that spills (`spilled`).
+// other varints took. They are the first four of docs/READINGS.md; the fifth is of a payload that spills, which `marked` knows.
 ghost use mathlib.Core.Path.{_≡_};
 ghost use Rattle.record.specs.Types.{typesOf};
-ghost use Rattle.marks.specs.Marks.{lowestBy, lowest};
+ghost use Rattle.marks.specs.Marks.{lowestBy, lowest, orSpilled};
 use answers::Mark;
 use varint::Varint;
 
@@ -55,4 +55,14 @@ fn lowest_of(long: bool, header: usize, one: bool, empty: bool) -> Marking
         return Marking::By(Mark::EmptyValue);
     }
     Marking::Clear
+}
+
+// The lowest mark of a record whose payload spills: the fifth, where it has none of the four.
+pub fn or_spilled(lowest: Marking) -> Mark
+    ensures { λ r. ⌜ r ≡ orSpilled lowest ⌝ }
+{
+    match lowest {
+        Marking::Clear => Mark::Spilled,
+        Marking::By(mark) => mark,
+    }
 }

@@ -1,4 +1,4 @@
--- What callers cite of kinds and answers.
+-- What callers cite of heads and answers.
 use Prim.Native.Nat.{_≤_}
 use mathlib.Core.Path.{_≡_}
 use native.Mathlib.Omega.{arith}
@@ -7,12 +7,10 @@ use Rattle.answers.specs.declared.Refusal.{Refusal}
 use Rattle.answers.specs.Answer.{Answer, refused, shown}
 use Rattle.kinds.specs.declared.Kind.{Kind}
 use Rattle.kinds.specs.declared.Kind.the-variants.{InteriorIndex, InteriorTable, LeafIndex, LeafTable}
-use Rattle.page.specs.declared.Site.{Site}
-use Rattle.page.specs.declared.SiteAnswer.the-variants as sa
 use Rattle.page.specs.declared.Open.{Open}
 use Rattle.page.specs.declared.OpenAnswer.the-variants as oa
-use Rattle.page.specs.Kinds.{headSize}
-use Rattle.page.specs.Open.{siteAnswer, openAnswer}
+use Rattle.page.specs.Head.{headSize}
+use Rattle.page.specs.Open.{openAnswer}
 
 pub head-small : (k : Kind) → (8 ≤ headSize k) × (headSize k ≤ 12)
 head-small InteriorIndex = omega arith
@@ -20,15 +18,7 @@ head-small InteriorTable = omega arith
 head-small LeafIndex = omega arith
 head-small LeafTable = omega arith
 
--- the code's answers are the definitions'
-pub site-answered : (x : Answer Refusal Site) {s : Site} → siteAnswer x ≡ sa.Shown s → x ≡ shown s
-site-answered (refused refusal) e = never cc
-site-answered (shown s) e = cc
-
-pub site-unanswered : (x : Answer Refusal Site) {refusal : Refusal} → siteAnswer x ≡ sa.Refused refusal → x ≡ refused refusal
-site-unanswered (refused other) e = cc
-site-unanswered (shown s) e = never cc
-
+-- the code's answer is the definition's
 pub open-answered : (x : Answer Refusal Open) {o : Open} → openAnswer x ≡ oa.Shown o → x ≡ shown o
 open-answered (refused refusal) e = never cc
 open-answered (shown o) e = cc

@@ -1,3 +1,3 @@
 pub mod Laws
 pub mod Opened
-pub mod Sites
+pub mod Steps

@@ -9,7 +9,7 @@ use borrow.Author.Tests.{ltb-false, leb-true, lt-ltb, le-ltb, lt-leb, le-leb}
 use Rattle.laws.specs.Pick.{pick}
 use Rattle.laws.proofs.Never.{never}
 use Rattle.page.specs.declared.Open.{Open}
-use Rattle.page.specs.Kinds.{pointersEnd}
+use Rattle.page.specs.Head.{pointersEnd}
 use Rattle.page.specs.Open.{liesIn}
 
 pub record Opened (o : Open) (db : List ℕ) : Type 0 where

@@ -1,44 +1,20 @@
-// A page that is opened, in two steps: where it lies and its kind, then its head and its pointers.
+// A page that is opened: behind its place and its kind, which are its site, its head and its pointers.
 //
-// From the file format, 1.6 "B-tree Pages", and the Rust's `get_page` and `page_generic`. The guarded reading asks for a
-// page's kind between the two steps.
+// From the file format, 1.6 "B-tree Pages", and the Rust's `page_generic`. The guarded reading asks for a page's kind between the
+// two steps.
 ghost use mathlib.Core.Path.{_≡_};
 ghost use Rattle.answers.specs.declared.Reason.the-variants as re;
-ghost use Rattle.page.specs.Kinds.{kindOf, kindAt, headSize};
-ghost use Rattle.page.specs.Open.{onPage, siteFrom, siteOf, siteAnswer, openFrom, openOf, openAnswer, rightmostOf, liesIn};
+ghost use Rattle.site.specs.Site.{onPage};
+ghost use Rattle.page.specs.Head.{headSize};
+ghost use Rattle.page.specs.Open.{openFrom, openOf, openAnswer, rightmostOf, liesIn};
 use answers::Reason;
 use answers::Refusal;
 use fields::be_u16;
 use fields::be_u32;
 use kinds::Kind;
 use place::Page;
-use place::Place;
-use reading::Reading;
-use shape::Shape;
-use shape::ShapeAnswer;
-
-pub enum KindAnswer {
-    Known(Kind),
-    Unknown,
-}
-
-// A page that is there, with its kind.
-pub struct Site {
-    pub page: Page,
-    // Where the page lies, and its size.
-    pub at: usize,
-    pub size: usize,
-    // Where its cells end.
-    pub end: u32,
-    // Where its header stands.
-    pub from: usize,
-    pub kind: Kind,
-}
-
-pub enum SiteAnswer {
-    Shown(Site),
-    Refused(Refusal),
-}
+use site::Site;
+use site::SiteAnswer;
 
 // A page whose head and pointers are there too.
 pub struct Open {
@@ -55,81 +31,6 @@ pub enum OpenAnswer {
     Shown(Open),
     Refused(Refusal),
 }
-
-// ITS PLACE AND ITS KIND
-
-// The kind that a byte names.
-fn kind_of(byte: u8) -> KindAnswer
-    ensures { λ r. ⌜ r ≡ kindOf byte ⌝ }
-{
-    match byte {
-        2 => KindAnswer::Known(Kind::InteriorIndex),
-        5 => KindAnswer::Known(Kind::InteriorTable),
-        10 => KindAnswer::Known(Kind::LeafIndex),
-        13 => KindAnswer::Known(Kind::LeafTable),
-        _ => KindAnswer::Unknown,
-    }
-}
-
-// The kind that stands at `from`, if a byte does.
-fn kind_at(page: &[u8], from: usize) -> KindAnswer
-    ensures { λ r. ⌜ r ≡ kindAt from (now (page .entry)) ⌝ }
-{
-    if from < page.len() {
-        return kind_of(page[from]);
-    }
-    KindAnswer::Unknown
-}
-
-fn no_site(page: Page, reason: Reason) -> SiteAnswer
-    ensures { λ r. ⌜ r ≡ siteAnswer (onPage page reason) ⌝ }
-{
-    SiteAnswer::Refused(Refusal::OnPage {
-        page: page.number,
-        reason,
-    })
-}
-
-// The page at a place, in pages of that shape.
-fn sited(db: &[u8], page: Page, shape: Shape, place: Place) -> SiteAnswer
-    ensures { λ r. ⌜ r ≡ siteAnswer (siteFrom page shape place (now (db .entry))) ⌝ }
-{
-    match place {
-        Place::Absent => no_site(page, Reason::PageAbsent),
-        Place::At { at, from } => {
-            let size = shape.page_size as usize;
-            if size < from {
-                return no_site(page, Reason::RootTooSmall);
-            }
-            let found = kind_at(place::bytes_of(db, at, size), from);
-            match found {
-                KindAnswer::Unknown => no_site(page, Reason::KindUnfit),
-                KindAnswer::Known(kind) => SiteAnswer::Shown(Site {
-                    page,
-                    at,
-                    size,
-                    end: shape.end,
-                    from,
-                    kind,
-                }),
-            }
-        }
-    }
-}
-
-// The checks of the header, then where the page lies, and its kind.
-pub fn site_of(db: &[u8], page: Page) -> SiteAnswer
-    ensures { λ r. ⌜ r ≡ siteAnswer (siteOf page (now (db .entry))) ⌝ }
-{
-    let reading: Reading = page.reading;
-    let shaped = shape::shape_of(db, reading);
-    match shaped {
-        ShapeAnswer::Refused(flaw) => SiteAnswer::Refused(Refusal::OfDatabase(flaw)),
-        ShapeAnswer::Shown(shape) => sited(db, page, shape, place::place_of(db.len(), shape, page)),
-    }
-}
-
-// ITS HEAD AND ITS POINTERS
 
 // How many bytes stand before the pointers.
 pub fn head_size(kind: Kind) -> usize
@@ -186,7 +87,7 @@ pub fn open_site(db: &[u8], site: Site) -> OpenAnswer
 pub fn open_page(db: &[u8], page: Page) -> OpenAnswer
     ensures { λ r. ⌜ r ≡ openAnswer (openOf page (now (db .entry))) ⌝ }
 {
-    let answer = site_of(db, page);
+    let answer = site::site_of(db, page);
     match answer {
         SiteAnswer::Refused(refusal) => OpenAnswer::Refused(refusal),
         SiteAnswer::Shown(site) => open_site(db, site),

@@ -3,6 +3,7 @@
 ghost use mathlib.Core.Path.{_≡_};
 ghost use Prim.Native.Nat.{min, _-_};
 ghost use lib.ListN.{take, drop};
+ghost use Rattle.parts.specs.Part.{partOf};
 
 // The bytes from `at` on.
 pub fn behind(s: &[u8], at: usize) -> &[u8]
@@ -23,6 +24,20 @@ pub fn part(s: &[u8], at: usize, len: usize) -> &[u8]
         return rest;
     }
     &rest[0..len]
+}
+
+// The `len` bytes from `at` on, such as those of a text or a blob; no bytes where they do not all lie there.
+pub fn whole_part(s: &[u8], at: usize, len: usize) -> &[u8]
+    ensures { λ r. ⌜ now r ≡ partOf at len (now (s .entry)) ⌝ }
+{
+    if s.len() < at {
+        return &s[0..0];
+    }
+    if s.len() - at < len {
+        return &s[0..0];
+    }
+    let end = at + len;
+    &s[at..end]
 }
 
 // a - b, or 0 where b is larger: how much is left.

@@ -20,7 +20,7 @@ use Rattle.place.specs.Place.{oldPage, filePage}
 use Rattle.page.specs.declared.Open.{Open}
 use Rattle.page.specs.Open as page
 use Rattle.page.specs.Open.{openAnswer}
-use Rattle.page.proofs.Sites.{open-page}
+use Rattle.page.proofs.Steps.{open-page, open-file}
 use Rattle.cells.specs.Located.{Located, locatedIn}
 use Rattle.cells.proofs.Laws.{held, located-open}
 use Rattle.row.specs.declared.ColumnAnswer.{ColumnAnswer}
@@ -83,7 +83,7 @@ module _ (i : ℕ) (db : List ℕ) (o : Opened) where
   again-guarded : (number : ℕ) → openingBy 2 (openAnswer (guarded.openOf number db)) ≡ record { refused = accepted; opened = o }
       → Behind 2 (guarded.openOf number db) o
   again-guarded number e =
-      page-behind 2 (guarded.openOf number db) o (λ p d. ap (λ (q : Page). q .reading) (open-page (filePage number) db (leaf-opened number db d .0))) e
+      page-behind 2 (guarded.openOf number db) o (λ p d. open-file number db (leaf-opened number db d .0)) e
 
   -- its cell, and the cell's columns
   row-plain : {n : ℕ} → o .reading ≡ n → eqb n 2 ≡ false → rowIn o i db ≡ usual.rowBy (foundBy (locatedIn (openOf o) i db))

@@ -1,7 +1,7 @@
 // Payloads that spill: which do, by the numbers of a cell or by what a call with no gather buffer was refused with; and the bytes that
 // a place counts in, where a buffer may hold them.
 ghost use mathlib.Core.Path.{_≡_};
-ghost use Rattle.values.specs.Part.{partOf};
+ghost use Rattle.parts.specs.Part.{partOf};
 ghost use Rattle.spills.specs.Spills.{spillsAs, spills, bytesIn};
 ghost use Rattle.spills.specs.Over.{over};
 use answers::Fault;
@@ -81,7 +81,7 @@ pub fn bytes_of<'a>(
     ensures { λ r. ⌜ now r ≡ partOf at len (bytesIn source (now (db .entry)) (now (buffer .entry))) ⌝ }
 {
     match source {
-        Source::Database => values::part::part(db, at, len),
-        Source::Buffer => values::part::part(buffer, at, len),
+        Source::Database => parts::whole_part(db, at, len),
+        Source::Buffer => parts::whole_part(buffer, at, len),
     }
 }

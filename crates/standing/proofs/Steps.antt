@@ -5,9 +5,9 @@ use mathlib.Core.List.{List, [], _∷_, _++_}
 use native.Mathlib.Omega.{arith}
 use Rattle.page.specs.declared.Open.{Open}
 use Rattle.cells.specs.Numbered.{numbersIn}
-use Rattle.walk.specs.declared.Table.{Table}
-use Rattle.walk.specs.Walk.{Row}
-use Rattle.walk.specs.Table.{tableAt, lastChild}
+use Rattle.trace.specs.declared.Table.{Table}
+use Rattle.trace.specs.Walk.{Row}
+use Rattle.trace.specs.Table.{tableAt, lastChild}
 use Rattle.standing.specs.Rows.{childBy, rowAt, leafRows, childRows, pageRows, allRows}
 
 module _ (o : Open) (db : List ℕ) (cells i : ℕ) where

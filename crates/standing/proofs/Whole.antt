@@ -20,20 +20,21 @@ use Rattle.shape.specs.Shape.{shapeOf}
 use Rattle.page.specs.declared.Open.{Open}
 use Rattle.cells.specs.Numbered.{numbersIn}
 use Rattle.keys.specs.Key.{keyOf}
-use Rattle.walk.specs.declared.Low.the-variants.{Any, Above}
-use Rattle.walk.specs.declared.State.{State}
-use Rattle.walk.specs.declared.Table.{Table}
-use Rattle.walk.specs.declared.Table.the-variants as ta
-use Rattle.walk.specs.declared.Walked.the-variants as wa
-use Rattle.walk.specs.declared.Walked.{Walked}
+use Rattle.order.specs.declared.Low.the-variants.{Any, Above}
+use Rattle.trace.specs.declared.State.{State}
+use Rattle.trace.specs.declared.Table.{Table}
+use Rattle.trace.specs.declared.Table.the-variants as ta
+use Rattle.trace.specs.declared.Walked.the-variants as wa
+use Rattle.trace.specs.declared.Walked.{Walked}
 use Rattle.walk.specs.declared.CountAnswer.the-variants as co
-use Rattle.walk.specs.Walk.{Row, Walk, refused, went, row, page, _>>=_, told, rowsOf}
-use Rattle.walk.specs.Order.{placedIn}
-use Rattle.walk.specs.Table.{tableAt, lastChild}
-use Rattle.walk.specs.Tree.{state, visit, leafOf, childrenOf, cellsOf, walkOf, tableOf}
-use Rattle.walk.specs.Counted.{more, counted, countBy, countOf}
-use Rattle.walk.proofs.Placed.{placed-read}
-use Rattle.walk.proofs.Steps.{table-flawed, table-shaped}
+use Rattle.trace.specs.Walk.{Row, Walk, refused, went, row, page, _>>=_, told, rowsOf}
+use Rattle.order.specs.Order.{placedIn}
+use Rattle.trace.specs.Table.{tableAt, lastChild}
+use Rattle.trace.specs.Tree.{state, visit, leafOf, childrenOf, cellsOf, walkOf, tableOf}
+use Rattle.trace.specs.Counted.{more, counted}
+use Rattle.walk.specs.Counted.{countBy, countOf}
+use Rattle.order.proofs.Placed.{placed-read}
+use Rattle.trace.proofs.Steps.{table-flawed, table-shaped}
 use Rattle.standing.specs.Rows.{leafRows, childRows, pageRows, allRows}
 
 -- a walk that, where it is not refused, has the rows `all`

@@ -8,10 +8,10 @@ use Rattle.cell.specs.declared.Numbers.{Numbers}
 use Rattle.page.specs.declared.Open.{Open}
 use Rattle.cells.specs.Numbered.{numbersIn}
 use Rattle.keys.specs.Key.{keyIn}
-use Rattle.walk.specs.declared.Table.{Table}
-use Rattle.walk.specs.declared.Table.the-variants.{Leaf, Interior, Refused}
-use Rattle.walk.specs.Walk.{Row}
-use Rattle.walk.specs.Table.{tableAt, lastChild}
+use Rattle.trace.specs.declared.Table.{Table}
+use Rattle.trace.specs.declared.Table.the-variants.{Leaf, Interior, Refused}
+use Rattle.trace.specs.Walk.{Row}
+use Rattle.trace.specs.Table.{tableAt, lastChild}
 
 -- 0 for what is not there
 abbrev pub numberBy : Answer Refusal ℤ → ℤ

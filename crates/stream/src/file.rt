@@ -5,14 +5,14 @@ use crate::telling::Telling;
 use answers::Refusal;
 use kinds::Kind;
 use page::OpenAnswer;
-use page::Site;
-use page::SiteAnswer;
 use print::out::field;
 use print::out::field_u32;
 use print::out::refused;
 use print::out::text;
 use reading::Reading;
 use shape::ShapeAnswer;
+use site::Site;
+use site::SiteAnswer;
 
 pub fn database(db: &[u8], out: &mut [u8], at: usize) -> usize {
     let answer = shape::shape_of(db, Reading::File);
@@ -38,7 +38,7 @@ pub fn database(db: &[u8], out: &mut [u8], at: usize) -> usize {
 
 // Other pages than table leaves are passed by.
 pub fn page(db: &[u8], out: &mut [u8], at: usize, number: u32) -> usize {
-    let found = page::site_of(db, place::file(number));
+    let found = site::site_of(db, place::file(number));
     match found {
         SiteAnswer::Refused(_) => at,
         SiteAnswer::Shown(site) => {

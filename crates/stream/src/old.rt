@@ -12,6 +12,7 @@ use columns::Cursor;
 use header::Header;
 use header::HeaderAnswer;
 use page::OpenAnswer;
+use parts::whole_part;
 use place::Page;
 use print::out::field;
 use print::out::field_i64;
@@ -31,7 +32,6 @@ use values::narrow::from_i8;
 use values::narrow::from_i16;
 use values::narrow::from_i32;
 use values::old::Value;
-use values::part::part;
 
 // More cells than any page has: no table is lent here, and none is too short.
 const ROOM: usize = 65_536;
@@ -183,7 +183,7 @@ pub fn value(db: &[u8], out: &mut [u8], at: usize, v: Value) -> usize {
         Value::I32(z) => integer(out, at, b" i32:", from_i32(z)),
         Value::I64(z) => integer(out, at, b" i64:", z),
         Value::F64 { number: _, bits } => real(out, at, b" f64:", bits),
-        Value::Blob { at: from, len } => long(out, at, b" blob:", part(db, from, len)),
-        Value::Text { at: from, len } => long(out, at, b" text:", part(db, from, len)),
+        Value::Blob { at: from, len } => long(out, at, b" blob:", whole_part(db, from, len)),
+        Value::Text { at: from, len } => long(out, at, b" text:", whole_part(db, from, len)),
     }
 }

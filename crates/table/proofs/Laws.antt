@@ -1,5 +1,5 @@
--- What callers cite of a page call: the check of the cells, one cell after the other; that the cells of an accepted page fit in
--- its table; that each of them is located; and the entries, one after the other.
+-- What callers cite of a page call: that the cells of an accepted page fit in its table; that each of them is located; and the
+-- entries, one after the other.
 use Prim.Native.Nat.{ℕ, zero, suc, _+_, _-_, _≤_, _<_, zero-le}
 use mathlib.Core.Path.{_≡_, refl, ap, _∙_}
 use mathlib.Core.List.{List, [], _∷_, _++_}
@@ -20,36 +20,19 @@ use Rattle.place.specs.Place.{pageAt}
 use Rattle.page.specs.declared.Open.{Open}
 use Rattle.page.specs.declared.OpenAnswer.{OpenAnswer}
 use Rattle.page.specs.declared.OpenAnswer.the-variants as oa
-use Rattle.page.specs.Open.{onPage, openOf, openAnswer, liesIn}
+use Rattle.site.specs.Site.{onPage}
+use Rattle.page.specs.Open.{openOf, openAnswer, liesIn}
 use Rattle.cells.specs.Located.{Located, locatedIn}
 use Rattle.cells.proofs.Laws.{Steps}
-use Rattle.table.specs.declared.CellsAnswer.{CellsAnswer}
-use Rattle.table.specs.declared.CellsAnswer.the-variants as ce
+use Rattle.sound.specs.declared.CellsAnswer.{CellsAnswer}
+use Rattle.sound.specs.declared.CellsAnswer.the-variants as ce
+use Rattle.sound.specs.Cells.{cellsFrom}
+use Rattle.sound.proofs.Laws.{each}
 use Rattle.table.specs.declared.Head.{Head}
 use Rattle.table.specs.declared.PageAnswer.the-variants as pa
 use Rattle.table.specs.Head.{headOf}
 use Rattle.table.specs.Entry.{entryFor, entries}
-use Rattle.table.specs.Page.{cellsFrom, headBy, pageIn, pageAnswer, pageFor, pageOf, written}
-
--- THE CHECK OF THE CELLS
-
--- of n cells, i are passed
-module _ (o : Open) (db : List ℕ) (n i : ℕ) where
-  pub cells-sound : n ≤ i → cellsFrom o db i (n - i) ≡ ce.Sound
-  unfolding cellsFrom
-  cells-sound h = let e : n - i ≡ 0 = omega arith in rw e
-
-  module _ (h : i < n) where
-    one-more : n - i ≡ suc (n - (i + 1))
-    one-more = omega arith
-
-    pub cells-next : {l : Located} → locatedIn o i db ≡ shown l → cellsFrom o db i (n - i) ≡ cellsFrom o db (i + 1) (n - (i + 1))
-    unfolding cellsFrom
-    cells-next e = rw one-more (simp (cellsFrom, e))
-
-    pub cells-stop : {refusal : Refusal} → locatedIn o i db ≡ refused refusal → cellsFrom o db i (n - i) ≡ ce.Refused refusal
-    unfolding cellsFrom
-    cells-stop e = rw one-more (simp (cellsFrom, e))
+use Rattle.table.specs.Page.{headBy, pageIn, pageAnswer, pageFor, pageOf, written}
 
 -- AN ACCEPTED PAGE
 
@@ -101,24 +84,6 @@ cells-within (oa.Shown o) room db = go (pageIn o room db) refl
     go (shown head) e = let a = accepted o room db e in omega (arith, a .cells, a .fits)
 
 -- ITS CELLS
-
--- where a run of cells is sound, each of them is located
-record Shown (o : Open) (i : ℕ) (db : List ℕ) : Type 0 where
-  l : Located
-  is : locatedIn o i db ≡ shown l
-
-each : (o : Open) (db : List ℕ) (from left : ℕ) → cellsFrom o db from left ≡ ce.Sound → (k : ℕ) → k < left → Shown o (from + k) db
-unfolding cellsFrom
-each o db from zero s k h = absurd (omega arith)
-each o db from (suc left) s k h = go (locatedIn o from db) refl (λ d j l. each o db (from + 1) left d j l) s k h
-  where
-    go : (x : Answer Refusal Located) → locatedIn o from db ≡ x
-        → (cellsFrom o db (from + 1) left ≡ ce.Sound → (j : ℕ) → j < left → Shown o (from + 1 + j) db)
-        → elim x [ shown l ↦ cellsFrom o db (from + 1) left | refused refusal ↦ ce.Refused refusal ] ≡ ce.Sound
-        → (k : ℕ) → k < suc left → Shown o (from + k) db
-    go (refused refusal) q ih d k h = never cc
-    go (shown l) q ih d zero h = rw (add-zero from) (record { l = l; is = q })
-    go (shown l) q ih d (suc k) h = let m : from + suc k ≡ from + 1 + k = omega arith in rw m (ih d k (omega arith))
 
 -- a cell of a page, with the way to it
 pub record Cell (page : Page) (i : ℕ) (db : List ℕ) : Type 0 where

@@ -1,5 +1,5 @@
 -- The page call: the head of a page, all of whose cells are accepted. The first failing cell decides.
-use Prim.Native.Nat.{ℕ, zero, suc, _+_}
+use Prim.Native.Nat.{ℕ}
 use mathlib.Core.List.{List}
 use lib.Dec.{ltb}
 use lib.ListN.{length, drop}
@@ -12,20 +12,15 @@ use Rattle.place.specs.Place.{pageAt}
 use Rattle.page.specs.declared.Open.{Open}
 use Rattle.page.specs.declared.OpenAnswer.{OpenAnswer}
 use Rattle.page.specs.declared.OpenAnswer.the-variants as oa
-use Rattle.page.specs.Open.{onPage, openOf, openAnswer, liesIn}
-use Rattle.cells.specs.Located.{locatedIn}
-use Rattle.table.specs.declared.CellsAnswer.{CellsAnswer}
-use Rattle.table.specs.declared.CellsAnswer.the-variants as ce
+use Rattle.site.specs.Site.{onPage}
+use Rattle.page.specs.Open.{openOf, openAnswer, liesIn}
+use Rattle.sound.specs.declared.CellsAnswer.{CellsAnswer}
+use Rattle.sound.specs.declared.CellsAnswer.the-variants as ce
+use Rattle.sound.specs.Cells.{cellsFrom}
 use Rattle.table.specs.declared.Head.{Head}
 use Rattle.table.specs.declared.PageAnswer.{PageAnswer}
 use Rattle.table.specs.declared.PageAnswer.the-variants as pa
 use Rattle.table.specs.Head.{headOf}
-
--- the cells from cell i on, of which there are `left`
-unfoldable pub cellsFrom : Open → List ℕ → ℕ → ℕ → CellsAnswer
-cellsFrom o db i zero = ce.Sound
-cellsFrom o db i (suc left) =
-    elim (locatedIn o i db) [ shown l ↦ cellsFrom o db (i + 1) left | refused refusal ↦ ce.Refused refusal ]
 
 abbrev pub headBy : Head → CellsAnswer → Answer Refusal Head
 headBy head ce.Sound = shown head

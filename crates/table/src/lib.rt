@@ -1,14 +1,14 @@
-// What a page call decides and writes: the head of a page, the check of all its cells, and each entry.
+// What a page call decides and writes: the head of a page, all of whose cells are accepted, and each entry.
 //
 // From the file format, 1.6 "B-tree Pages", and the Rust's `page_generic`. The call itself, over a table that is lent, is in
 // `lent`: it opens its page once and hands the answer here.
 ghost use mathlib.Core.Path.{_≡_};
 ghost use lib.ListN.{getD, length};
 ghost use Rattle.answers.specs.declared.Reason.{Reason};
-ghost use Rattle.page.specs.Open.{onPage};
+ghost use Rattle.site.specs.Site.{onPage};
 ghost use Rattle.table.specs.Head.{contentStart, headOf};
 ghost use Rattle.table.specs.Entry.{none, entryBy, entryFor};
-ghost use Rattle.table.specs.Page.{cellsFrom, pageIn, pageAnswer, pageFor, pageOf, written};
+ghost use Rattle.table.specs.Page.{pageIn, pageAnswer, pageFor, pageOf, written};
 use answers::Reason;
 use answers::Refusal;
 use cell::Cell;
@@ -18,6 +18,7 @@ use page::Open;
 use page::OpenAnswer;
 use parts::behind;
 use place::Page;
+use sound::CellsAnswer;
 use varint::Number;
 
 // THE HEAD OF A PAGE
@@ -67,36 +68,11 @@ fn head_of(header: &[u8], opened: Open) -> Head
     }
 }
 
-// THE CHECK OF ALL CELLS
-
-pub enum CellsAnswer {
-    Sound,
-    Refused(Refusal),
-}
+// A PAGE WITH ALL ITS CELLS
 
 pub enum PageAnswer {
     Shown(Head),
     Refused(Refusal),
-}
-
-// Whether every cell of an opened page is accepted.
-fn check_cells(db: &[u8], opened: Open) -> CellsAnswer
-    ensures { λ r. ⌜ r ≡ cellsFrom opened (now (db .entry)) 0 (opened .cells) ⌝ }
-{
-    let cells = opened.cells;
-    let mut i: usize = 0;
-    while i < cells {
-        let located = cells::cell_in(db, opened, i);
-        match located {
-            LocatedAnswer::Shown(_) => {
-                i += 1;
-            }
-            LocatedAnswer::Refused(refusal) => {
-                return CellsAnswer::Refused(refusal);
-            }
-        }
-    }
-    CellsAnswer::Sound
 }
 
 fn no_page(page: Page, reason: Reason) -> PageAnswer
@@ -118,7 +94,7 @@ fn checked_page(db: &[u8], opened: Open, room: usize) -> PageAnswer
     if room < opened.cells {
         return no_page(opened.page, Reason::TableTooShort);
     }
-    let checked = check_cells(db, opened);
+    let checked = sound::check_cells(db, opened);
     match checked {
         CellsAnswer::Refused(refusal) => PageAnswer::Refused(refusal),
         CellsAnswer::Sound => {

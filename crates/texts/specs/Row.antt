@@ -6,7 +6,7 @@ use Rattle.io.specs.Digits.{digits}
 use Rattle.answers.specs.Numbers.{numbersOf}
 use Rattle.values.specs.declared.file.Value.{Value}
 use Rattle.values.specs.declared.file.Value.the-variants.{Null, Integer, Real, Text, Blob}
-use Rattle.values.specs.Part.{partOf}
+use Rattle.parts.specs.Part.{partOf}
 use Rattle.columns.specs.declared.Cursor.{Cursor}
 use Rattle.cells.specs.Located.{rowNumber}
 use Rattle.row.specs.declared.FoundAnswer.{FoundAnswer}

@@ -4,6 +4,7 @@ ghost use mathlib.Core.Path.{_≡_};
 ghost use Rattle.print.specs.Gathered.{gathered, puts};
 ghost use Rattle.texts.specs.Row.{valueText, valuesText, rowText};
 use columns::Cursor;
+use parts::whole_part;
 use print::out::field_i64;
 use print::out::integer;
 use print::out::long;
@@ -13,7 +14,6 @@ use print::out::text;
 use row::FoundAnswer;
 use row_values::file::NextAnswer;
 use values::file::Value;
-use values::part::part;
 use varint::Number;
 
 // The rest of a cell's line: the row number and the values, or the refusal.
@@ -60,7 +60,7 @@ pub fn value(db: &[u8], out: &mut [u8], at: usize, v: Value) -> usize
         Value::Null => text(out, at, b" null"),
         Value::Integer(z) => integer(out, at, b" i:", z),
         Value::Real { number: _, bits } => real(out, at, b" r:", bits),
-        Value::Blob { at: from, len } => long(out, at, b" b:", part(db, from, len)),
-        Value::Text { at: from, len } => long(out, at, b" t:", part(db, from, len)),
+        Value::Blob { at: from, len } => long(out, at, b" b:", whole_part(db, from, len)),
+        Value::Text { at: from, len } => long(out, at, b" t:", whole_part(db, from, len)),
     }
 }

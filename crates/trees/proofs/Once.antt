@@ -9,10 +9,10 @@ use Rattle.place.specs.Place.{filePage}
 use Rattle.page.specs.declared.Open.{Open}
 use Rattle.page.specs.Open.{openOf}
 use Rattle.keys.specs.Key.{keyIn}
-use Rattle.walk.specs.declared.Low.{Low}
-use Rattle.walk.specs.declared.Low.the-variants.{Any, Above}
-use Rattle.walk.specs.Walk.{Row, rowsOf}
-use Rattle.walk.specs.Tree.{tableOf}
+use Rattle.order.specs.declared.Low.{Low}
+use Rattle.order.specs.declared.Low.the-variants.{Any, Above}
+use Rattle.trace.specs.Walk.{Row, rowsOf}
+use Rattle.trace.specs.Tree.{tableOf}
 use Rattle.trees.specs.Trees.{Rising, Cell, Each, Apart, Once, ListedOnce}
 use Rattle.trees.proofs.Order.{le-lt, lt-to-le, same-le, rises}
 use Rattle.trees.proofs.Places.{are-cells}

@@ -19,17 +19,17 @@ use Rattle.shape.specs.declared.Shape.{Shape}
 use Rattle.shape.specs.Shape.{shapeOf}
 use Rattle.page.specs.declared.Open.{Open}
 use Rattle.keys.specs.Key.{keyOf}
-use Rattle.walk.specs.declared.Low.{Low}
-use Rattle.walk.specs.declared.Low.the-variants.{Any, Above}
-use Rattle.walk.specs.declared.State.{State}
-use Rattle.walk.specs.declared.Table.{Table}
-use Rattle.walk.specs.declared.Table.the-variants.{Leaf, Interior, Refused}
-use Rattle.walk.specs.Walk.{Row, Walk, refused, went, row, page, _>>=_, told, rowsOf}
-use Rattle.walk.specs.Order.{above, fitsIn, placedIn}
-use Rattle.walk.specs.Table.{tableAt, lastChild}
-use Rattle.walk.specs.Tree.{state, visit, leafOf, childrenOf, cellsOf, walkOf, tableOf}
-use Rattle.walk.proofs.Placed.{placed-read}
-use Rattle.walk.proofs.Steps.{table-flawed, table-shaped}
+use Rattle.order.specs.declared.Low.{Low}
+use Rattle.order.specs.declared.Low.the-variants.{Any, Above}
+use Rattle.trace.specs.declared.State.{State}
+use Rattle.trace.specs.declared.Table.{Table}
+use Rattle.trace.specs.declared.Table.the-variants.{Leaf, Interior, Refused}
+use Rattle.trace.specs.Walk.{Row, Walk, refused, went, row, page, _>>=_, told, rowsOf}
+use Rattle.order.specs.Order.{above, fitsIn, placedIn}
+use Rattle.trace.specs.Table.{tableAt, lastChild}
+use Rattle.trace.specs.Tree.{state, visit, leafOf, childrenOf, cellsOf, walkOf, tableOf}
+use Rattle.order.proofs.Placed.{placed-read}
+use Rattle.trace.proofs.Steps.{table-flawed, table-shaped}
 use Rattle.trees.specs.Trees.{Over, Rising, Rises}
 
 -- the order of signed numbers

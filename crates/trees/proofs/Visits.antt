@@ -10,15 +10,15 @@ use Rattle.answers.specs.Answer as an
 use Rattle.cell.specs.declared.Numbers.{Numbers}
 use Rattle.page.specs.declared.Open.{Open}
 use Rattle.keys.specs.Key.{keyOf}
-use Rattle.walk.specs.declared.Low.the-variants.{Any, Above}
-use Rattle.walk.specs.declared.State.{State}
-use Rattle.walk.specs.declared.Table.{Table}
-use Rattle.walk.specs.declared.Table.the-variants.{Leaf, Interior, Refused}
-use Rattle.walk.specs.Walk.{Walk, refused, went, row, page, _>>=_, told, pagesOf}
-use Rattle.walk.specs.Order.{placedIn}
-use Rattle.walk.specs.Table.{tableAt, lastChild}
-use Rattle.walk.specs.Tree.{state, visit, leafOf, childrenOf, cellsOf, walkOf}
-use Rattle.walk.proofs.Steps.{table-shaped}
+use Rattle.order.specs.declared.Low.the-variants.{Any, Above}
+use Rattle.trace.specs.declared.State.{State}
+use Rattle.trace.specs.declared.Table.{Table}
+use Rattle.trace.specs.declared.Table.the-variants.{Leaf, Interior, Refused}
+use Rattle.trace.specs.Walk.{Walk, refused, went, row, page, _>>=_, told, pagesOf}
+use Rattle.order.specs.Order.{placedIn}
+use Rattle.trace.specs.Table.{tableAt, lastChild}
+use Rattle.trace.specs.Tree.{state, visit, leafOf, childrenOf, cellsOf, walkOf}
+use Rattle.trace.proofs.Steps.{table-shaped}
 use Rattle.trees.specs.Trees.{VisitsEnd}
 
 -- a walk comes to no more pages than it has visits, and what it leaves is not more either

@@ -16,11 +16,11 @@ use Rattle.page.specs.declared.Open.{Open}
 use Rattle.page.specs.Open.{openOf}
 use Rattle.cells.specs.Located.{Located, rowNumber, locatedOf}
 use Rattle.keys.specs.Key.{keyIn}
-use Rattle.walk.specs.declared.Low.{Low}
-use Rattle.walk.specs.declared.Low.the-variants.{Any, Above}
+use Rattle.order.specs.declared.Low.{Low}
+use Rattle.order.specs.declared.Low.the-variants.{Any, Above}
 use Rattle.walk.specs.declared.CountAnswer.the-variants.{Shown}
-use Rattle.walk.specs.Walk.{Row, Walk, refused, went, row, page, rowsOf, pagesOf}
-use Rattle.walk.specs.Tree.{tableOf}
+use Rattle.trace.specs.Walk.{Row, Walk, refused, went, row, page, rowsOf, pagesOf}
+use Rattle.trace.specs.Tree.{tableOf}
 use Rattle.walk.specs.Counted.{countOf}
 use Rattle.standing.specs.Rows.{allRows}
 

@@ -8,7 +8,7 @@ use Rattle.answers.specs.Answer.{Answer, refused, shown}
 use Rattle.place.specs.declared.Page.{Page}
 use Rattle.place.specs.Place.{filePage}
 use Rattle.page.specs.declared.Open.{Open}
-use Rattle.page.proofs.Sites.{open-page}
+use Rattle.page.proofs.Steps.{open-page}
 use Rattle.cells.specs.Located.{Located}
 use Rattle.cells.specs.Numbered.{numbersIn}
 use Rattle.row.specs.declared.FoundAnswer.the-variants as fo
@@ -16,14 +16,14 @@ use Rattle.row.specs.declared.FoundCell.{FoundCell}
 use Rattle.row.specs.Found.{foundBy}
 use Rattle.guarded.specs.Guarded.{locatedIn, locatedOf}
 use Rattle.guarded.proofs.Guard.{leaf-opens, guarded-open}
-use Rattle.walk.specs.declared.Table.the-variants.{Leaf}
+use Rattle.trace.specs.declared.Table.the-variants.{Leaf}
 use Rattle.walk.specs.declared.CountAnswer.{CountAnswer}
 use Rattle.walk.specs.declared.CountAnswer.the-variants as co
-use Rattle.walk.specs.Walk.{Row, rowsOf}
-use Rattle.walk.specs.Table.{tableAt, lastChild}
-use Rattle.walk.specs.Tree.{tableOf}
+use Rattle.trace.specs.Walk.{Row, rowsOf}
+use Rattle.trace.specs.Table.{tableAt, lastChild}
+use Rattle.trace.specs.Tree.{tableOf}
 use Rattle.walk.specs.Counted.{countOf}
-use Rattle.walk.proofs.Pages.{table-opens}
+use Rattle.trace.proofs.Pages.{table-opens}
 use Rattle.standing.specs.Rows.{childBy, leafRows, childRows}
 use Rattle.standing.proofs.Steps.{leaf-next, leaf-none, child-next, child-last}
 use Rattle.trust.specs.declared.First.{First}

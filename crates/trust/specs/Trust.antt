@@ -7,8 +7,8 @@ use Rattle.cells.specs.Located.{Located}
 use Rattle.guarded.specs.Guarded.{locatedOf}
 use Rattle.walk.specs.declared.CountAnswer.{CountAnswer}
 use Rattle.walk.specs.declared.CountAnswer.the-variants as co
-use Rattle.walk.specs.Walk.{Row, rowsOf}
-use Rattle.walk.specs.Tree.{tableOf}
+use Rattle.trace.specs.Walk.{Row, rowsOf}
+use Rattle.trace.specs.Tree.{tableOf}
 use Rattle.walk.specs.Counted.{countOf}
 use Rattle.trust.specs.declared.First.{First}
 use Rattle.trust.specs.declared.First.the-variants as fi

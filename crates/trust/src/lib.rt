@@ -2,15 +2,15 @@
 //
 // The rows are gone along once more behind the walk, with nothing of it checked again.
 ghost use mathlib.Core.Path.{_≡_};
-ghost use Rattle.walk.specs.declared.Table.the-variants.{Leaf};
-ghost use Rattle.walk.specs.Table.{tableAt};
+ghost use Rattle.trace.specs.declared.Table.the-variants.{Leaf};
+ghost use Rattle.trace.specs.Table.{tableAt};
 ghost use Rattle.standing.specs.Rows.{leafRows, allRows};
 ghost use Rattle.trust.specs.Trust.{firstRefused, trustOf, trustedCount};
 use answers::Refusal;
 use page::Open;
 use row::FoundAnswer;
+use trace::Table;
 use walk::CountAnswer;
-use walk::Table;
 
 // The first row that the guarded reading refuses.
 pub enum First {

@@ -18,7 +18,7 @@ use Rattle.columns.specs.declared.Cursor.{Cursor}
 use Rattle.place.specs.Place.{pageAt}
 use Rattle.place.proofs.Laws.{page-length}
 use Rattle.page.specs.declared.Open.{Open}
-use Rattle.page.specs.Kinds.{pointersAt, pointersEnd}
+use Rattle.page.specs.Head.{pointersAt, pointersEnd}
 use Rattle.page.specs.Open.{liesIn}
 use Rattle.page.proofs.Opened.{Opened, lies-opened}
 use Rattle.cells.specs.Pointers.{pointerAt, outside, partAt}

@@ -1,5 +1,1 @@
-pub mod Walk
-pub mod Order
-pub mod Table
-pub mod Tree
 pub mod Counted

@@ -1,127 +1,37 @@
 // The walk over a table: from its root down through each child and then the last one, with every row number and key checked,
-// and the rows counted. Of a cell only its page number and its varints are looked at.
+// and the rows counted.
 //
 // From the file format, 1.6 "B-tree Pages". A walk is of the file reading.
 ghost use mathlib.Core.Path.{_≡_};
-ghost use Rattle.answers.specs.declared.Fault.the-variants.{OutOfOrder};
-ghost use Rattle.answers.specs.declared.Refusal.the-variants.{InCell};
-ghost use Rattle.walk.specs.Order.{fitsIn, placedIn, placedKey, placedDown};
 ghost use Rattle.answers.specs.declared.Reason.the-variants.{IndexPage};
-ghost use Rattle.walk.specs.Table.{noTable, tableBy, tableAt, entered, lastChild};
-ghost use Rattle.walk.specs.Tree.{leafOf, walkOf, tableOf};
-ghost use Rattle.walk.specs.Counted.{more, counted, countOf};
-use answers::Fault;
+ghost use Rattle.trace.specs.Table.{noTable, tableBy, tableAt, entered, lastChild};
+ghost use Rattle.trace.specs.Tree.{leafOf, walkOf};
+ghost use Rattle.trace.specs.Counted.{more, counted};
+ghost use Rattle.walk.specs.Counted.{countOf};
 use answers::Reason;
 use answers::Refusal;
-use cells::NumberedAnswer;
 use keys::KeyAnswer;
 use kinds::Kind;
+use order::Down;
+use order::Low;
+use order::child_placed;
+use order::key_placed;
 use page::Open;
 use page::OpenAnswer;
 use place::Page;
 use reading::Reading;
 use shape::ShapeAnswer;
-use varint::Number;
+use trace::State;
+use trace::Table;
+use trace::Walked;
 
 // How many pages deep a table is at most; its root is the first.
 pub const DEPTH: usize = 20;
-
-// What every number that follows must exceed.
-pub enum Low {
-    Any,
-    Above(i64),
-}
-
-pub struct State {
-    // Pages that may still be visited.
-    pub visits: usize,
-    pub low: Low,
-}
-
-pub enum Walked {
-    Refused(Refusal),
-    Done { state: State, count: usize },
-}
 
 // How many rows a table has.
 pub enum CountAnswer {
     Shown(usize),
     Refused(Refusal),
-}
-
-// A page of a table, opened.
-pub enum Table {
-    Leaf(Open),
-    Interior(Open),
-    Refused(Refusal),
-}
-
-// What an interior cell leads to.
-enum Down {
-    To { child: u32, key: i64 },
-    Refused(Refusal),
-}
-
-// ORDER
-
-// Whether a number is above all that came before it and at most `most`.
-fn fits(low: Low, most: i64, number: i64) -> bool
-    ensures { λ r. ⌜ r ≡ fitsIn low most number ⌝ }
-{
-    if most < number {
-        return false;
-    }
-    match low {
-        Low::Any => true,
-        Low::Above(last) => last < number,
-    }
-}
-
-fn out_of_order(page: Page, cell: usize) -> Refusal
-    ensures { λ r. ⌜ r ≡ InCell (page .number) cell OutOfOrder ⌝ }
-{
-    Refusal::InCell {
-        page: page.number,
-        cell,
-        fault: Fault::OutOfOrder,
-    }
-}
-
-// The row number of cell `i` of a leaf, in its place.
-fn key_placed(db: &[u8], opened: Open, i: usize, low: Low, most: i64) -> KeyAnswer
-    ensures { λ r. ⌜ r ≡ placedKey (placedIn opened (now (db .entry)) most i low) ⌝ }
-{
-    let answer = keys::key_in(db, opened, i);
-    match answer {
-        KeyAnswer::Refused(refusal) => KeyAnswer::Refused(refusal),
-        KeyAnswer::Shown(number) => {
-            if fits(low, most, number) {
-                return KeyAnswer::Shown(number);
-            }
-            KeyAnswer::Refused(out_of_order(opened.page, i))
-        }
-    }
-}
-
-// The child and the key of cell `i` of an interior page, the key in its place.
-fn child_placed(db: &[u8], opened: Open, i: usize, low: Low, most: i64) -> Down
-    ensures { λ r. ⌜ r ≡ placedDown (placedIn opened (now (db .entry)) most i low) ⌝ }
-{
-    let answer = cells::numbers_in(db, opened, i);
-    match answer {
-        NumberedAnswer::Refused(refusal) => Down::Refused(refusal),
-        NumberedAnswer::Shown(numbers) => {
-            let key: Number = numbers.key;
-            let number = fields::signed_of(key.value);
-            if fits(low, most, number) {
-                return Down::To {
-                    child: numbers.child,
-                    key: number,
-                };
-            }
-            Down::Refused(out_of_order(opened.page, i))
-        }
-    }
 }
 
 // PAGES

@@ -2,7 +2,7 @@
 use Prim.Native.Nat.{_≤_, _<_}
 use native.Mathlib.Omega.{arith}
 use borrow.Author.Tests.{lt-ltb, le-ltb}
-use Rattle.page.specs.Kinds.{pointersEnd}
+use Rattle.page.specs.Head.{pointersEnd}
 use borrow.Author.Needs.{needs}
 use Rattle.cells.proofs.is_outside.Statement.{statement}
 use Rattle.cells.proofs.is_outside.Tie as tie

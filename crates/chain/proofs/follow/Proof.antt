@@ -7,7 +7,7 @@ use denote.Ref.{now}
 use Rattle.laws.proofs.Parts.{tail}
 use Rattle.fields.specs.Fields.{unsigned}
 use Rattle.place.specs.declared.Place.the-variants.{At}
-use Rattle.chain.proofs.Steps.{lies, page-within}
+use Rattle.links.proofs.Steps.{lies, page-within}
 use Rattle.chain.proofs.Following.{Going, ahead, goes-on, gone, absent}
 use borrow.Author.Needs.{needs}
 use Rattle.chain.proofs.follow.Statement.{statement}

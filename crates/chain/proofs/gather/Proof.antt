@@ -9,8 +9,9 @@ use denote.Ref.{now}
 use Rattle.laws.proofs.Parts.{tail}
 use Rattle.cell.specs.declared.Payload.the-variants.{Whole}
 use Rattle.kept.specs.Kept.{keptOf}
-use Rattle.chain.specs.Chain.{chainOf}
-use Rattle.chain.specs.Copied.{whole, laidAt}
+use Rattle.links.specs.Links.{chainOf}
+use Rattle.links.specs.Whole.{whole}
+use Rattle.chain.specs.Copied.{laidAt}
 use Rattle.kept.proofs.Sizes.{kept-below}
 use Rattle.chain.proofs.Payloads.{chain, payload-short, payload-cut, payload-unfit, payload-joined}
 use Rattle.chain.proofs.Payloads.{joined-length, joined-laid}

@@ -2,8 +2,9 @@
 use mathlib.Core.Path.{sym, ap, _∙_}
 use denote.Ref.{now}
 use Rattle.place.specs.Place.{filePage}
-use Rattle.page.specs.Open.{siteOf, openAnswer}
-use Rattle.page.proofs.Laws.{site-answered, site-unanswered}
+use Rattle.site.specs.Site.{siteOf}
+use Rattle.page.specs.Open.{openAnswer}
+use Rattle.site.proofs.Laws.{site-answered, site-unanswered}
 use Rattle.guarded.proofs.Guard.{site-refused, site-other, site-leaf}
 use borrow.Author.Needs.{needs}
 use Rattle.guarded.proofs.open_page.Statement.{statement}

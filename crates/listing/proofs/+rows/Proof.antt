@@ -10,9 +10,9 @@ use borrow.Author.Needs.{needs}
 use borrow.Fn.Kinds.{In}
 use borrow.Fn.PlainCycle.{Measures, is, falls, and}
 use Rattle.cells.specs.Numbered.{numbersIn}
-use Rattle.walk.specs.declared.Table.the-variants.{Interior}
-use Rattle.walk.specs.Table.{tableAt, lastChild}
-use Rattle.walk.proofs.Pages.{table-opens, few-cells}
+use Rattle.trace.specs.declared.Table.the-variants.{Interior}
+use Rattle.trace.specs.Table.{tableAt, lastChild}
+use Rattle.trace.proofs.Pages.{table-opens, few-cells}
 use Rattle.walk.proofs.table_at.Reads as table-at
 use Rattle.walk.proofs.last_child.Reads as last-child
 use Rattle.standing.specs.Rows.{childBy, childRows, allRows}

@@ -5,8 +5,8 @@ use native.Mathlib.Omega.{arith}
 use lib.ListN.{length}
 use denote.Ref.{now}
 use borrow.Author.Tests.{lt-ltb, le-ltb}
-use Rattle.walk.specs.Walk.{rowsOf}
-use Rattle.walk.specs.Tree.{tableOf}
+use Rattle.trace.specs.Walk.{rowsOf}
+use Rattle.trace.specs.Tree.{tableOf}
 use Rattle.walk.specs.declared.CountAnswer.{CountAnswer}
 use Rattle.standing.specs.Rows.{allRows}
 use Rattle.standing.proofs.Whole.{whole, whole-counted}

@@ -1,7 +1,7 @@
 -- The marks of the types in the payload, and the fifth where there is none of them.
-use mathlib.Core.Path.{_≡_, sym, ap, _∙_}
+use mathlib.Core.Path.{_≡_, ap, _∙_}
 use denote.Ref.{now}
-use Rattle.marked.specs.Marked.{orSpilled}
+use Rattle.marks.specs.Marks.{orSpilled}
 use Rattle.marked.specs.Steps.{markOver}
 use borrow.Author.Needs.{needs}
 use Rattle.marked.proofs.mark_of.Statement.{statement}
@@ -19,21 +19,15 @@ limit-of-requires c κs = search needs
 mark-of-requires : tie.Need-mark-of-requires
 mark-of-requires c κs = search needs
 
-enum-told : tie.Need-enum-told
-enum-told c = search needs
-
-enum-known-lowest : tie.Need-enum-known-lowest
-enum-known-lowest c = search needs
+or-spilled-requires : tie.Need-or-spilled-requires
+or-spilled-requires c κs = search needs
 
 -- what was looked for, in the types of the payload
 looked : (c : tie.After-mark-of) → let a = c .before .before .before .before .before .before .before .before .before .before .before .args in c .mark-of .result ≡ markOver (a .found) (now (a .payload))
 looked c = rw (c .before .before .part .ensures, c .before .before .before .less .ensures, c .before .limit-of .ensures) at (c .mark-of .ensures)
 
 returns : tie.Need-returns
-returns c = ap orSpilled (sym (c .enum-told .given .1) ∙ looked (c .before .before))
-
-returns-2 : tie.Need-returns-2
-returns-2 c = ap orSpilled (sym (c .before .lowest .given .1) ∙ looked (c .before .before .before))
+returns c = c .or-spilled .ensures ∙ ap orSpilled (looked (c .before))
 
 pub mark-of-spec : {M : Type 1} → statement M
 mark-of-spec =
@@ -43,7 +37,5 @@ mark-of-spec =
     part-requires
     limit-of-requires
     mark-of-requires
-    enum-told
-    enum-known-lowest
-    returns
-    returns-2)
+    or-spilled-requires
+    returns)

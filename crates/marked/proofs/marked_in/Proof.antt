@@ -10,7 +10,8 @@ use Rattle.answers.specs.declared.Refusal.the-variants.{InCell}
 use Rattle.answers.specs.Answer.{shown}
 use Rattle.chain.specs.Gathered.{gatheredIn, bufferBy}
 use Rattle.spilled.specs.Lent.{Spilled, spilledIn}
-use Rattle.marked.specs.Marked.{orSpilled, markedIn}
+use Rattle.marks.specs.Marks.{orSpilled}
+use Rattle.marked.specs.Marked.{markedIn}
 use Rattle.marked.specs.Steps.{markOver}
 use Rattle.spilled.proofs.Got.{spilled-got}
 use Rattle.marked.proofs.Marks.{marked-refused, marked-shown}

@@ -1,8 +1,9 @@
 -- One step after the other.
 use mathlib.Core.Path.{sym, _∙_}
 use denote.Ref.{now}
-use Rattle.page.specs.Open.{siteOf, openOf}
-use Rattle.page.proofs.Laws.{site-answered, site-unanswered}
+use Rattle.site.specs.Site.{siteOf}
+use Rattle.site.proofs.Laws.{site-answered, site-unanswered}
+use Rattle.page.specs.Open.{openOf}
 use borrow.Author.Needs.{needs}
 use Rattle.page.proofs.open_page.Statement.{statement}
 use Rattle.page.proofs.open_page.Tie as tie

@@ -4,7 +4,7 @@ use mathlib.Core.Path.{_≡_}
 use native.Mathlib.Omega.{arith}
 use denote.Ref.{now}
 use borrow.Author.Tests.{lt-ltb, le-ltb}
-use Rattle.page.specs.Kinds.{pointersEnd}
+use Rattle.page.specs.Head.{pointersEnd}
 use Rattle.page.specs.Open.{cellsOf, openFrom}
 use borrow.Author.Needs.{needs}
 use Rattle.page.proofs.open_site.Statement.{statement}

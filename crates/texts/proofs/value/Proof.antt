@@ -38,8 +38,8 @@ enum-known-v-3 c = search needs
 slice-aggregate-long : tie.Need-slice-aggregate-long
 slice-aggregate-long c = search needs
 
-part-requires : tie.Need-part-requires
-part-requires c κs = search needs
+whole-part-requires : tie.Need-whole-part-requires
+whole-part-requires c κs = search needs
 
 long-requires : tie.Need-long-requires
 long-requires c κs = search needs
@@ -50,8 +50,8 @@ enum-known-v-4 c = search needs
 slice-aggregate-long-2 : tie.Need-slice-aggregate-long-2
 slice-aggregate-long-2 c = search needs
 
-part-requires-2 : tie.Need-part-requires-2
-part-requires-2 c κs = search needs
+whole-part-requires-2 : tie.Need-whole-part-requires-2
+whole-part-requires-2 c κs = search needs
 
 long-requires-2 : tie.Need-long-requires-2
 long-requires-2 c κs = search needs
@@ -78,13 +78,13 @@ same-length-4 : tie.Need-same-length-4
 same-length-4 c = search needs
 
 returns-4 : tie.Need-returns-4
-returns-4 c = rw (c .before .before .before .before .before .before .before .v3 .given .1, ← c .before .before .before .part .ensures) (c .before .before .long .ensures)
+returns-4 c = rw (c .before .before .before .before .before .before .before .v3 .given .1, ← c .before .before .before .whole-part .ensures) (c .before .before .long .ensures)
 
 same-length-5 : tie.Need-same-length-5
 same-length-5 c = search needs
 
 returns-5 : tie.Need-returns-5
-returns-5 c = rw (c .before .before .before .before .before .before .before .v4 .given .1, ← c .before .before .before .part2 .ensures) (c .before .before .long2 .ensures)
+returns-5 c = rw (c .before .before .before .before .before .before .before .v4 .given .1, ← c .before .before .before .whole-part2 .ensures) (c .before .before .long2 .ensures)
 
 pub value-spec : {M : Type 1} → statement M
 value-spec =
@@ -101,11 +101,11 @@ value-spec =
     real-requires
     enum-known-v-3
     slice-aggregate-long
-    part-requires
+    whole-part-requires
     long-requires
     enum-known-v-4
     slice-aggregate-long-2
-    part-requires-2
+    whole-part-requires-2
     long-requires-2
     same-length
     returns

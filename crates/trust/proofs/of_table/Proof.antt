@@ -2,8 +2,8 @@
 use mathlib.Core.Path.{_≡_, sym, ap, _∙_}
 use denote.Ref.{now}
 use Rattle.walk.specs.declared.CountAnswer.the-variants as co
-use Rattle.walk.specs.Walk.{rowsOf}
-use Rattle.walk.specs.Tree.{tableOf}
+use Rattle.trace.specs.Walk.{rowsOf}
+use Rattle.trace.specs.Tree.{tableOf}
 use Rattle.walk.specs.Counted.{countOf}
 use Rattle.standing.proofs.Whole.{whole}
 use Rattle.trust.specs.Trust.{firstRefused}

@@ -10,7 +10,7 @@ use Rattle.laws.proofs.Parts.{tail}
 use Rattle.kinds.specs.declared.Kind.the-variants.{LeafTable}
 use Rattle.place.specs.Place.{pageAt}
 use Rattle.page.specs.declared.Open.{Open}
-use Rattle.page.specs.Kinds.{pointersEnd}
+use Rattle.page.specs.Head.{pointersEnd}
 use Rattle.page.specs.Open.{liesIn}
 use Rattle.cells.specs.Pointers.{pointerAt, partAt}
 use Rattle.cells.proofs.Laws.{part-length}

@@ -11,18 +11,18 @@ use borrow.Author.Needs.{needs}
 use borrow.Fn.Kinds.{In}
 use borrow.Fn.PlainCycle.{Measures, is, falls, and}
 use Rattle.page.specs.declared.Open.{Open}
-use Rattle.walk.specs.declared.State.{State}
-use Rattle.walk.specs.declared.Table.the-variants as ta
-use Rattle.walk.specs.declared.Walked.{Walked}
-use Rattle.walk.specs.Walk.{Walk}
-use Rattle.walk.specs.Tree.{state, childrenOf, walkOf}
-use Rattle.walk.specs.Counted.{counted}
-use Rattle.walk.proofs.Pages.{table-opens, few-cells}
-use Rattle.walk.proofs.Steps.{Entered, enter-refused, enter-leaf, enter-interior, children-out, children-stop, children-on, children-end}
+use Rattle.trace.specs.declared.State.{State}
+use Rattle.trace.specs.declared.Table.the-variants as ta
+use Rattle.trace.specs.declared.Walked.{Walked}
+use Rattle.trace.specs.Walk.{Walk}
+use Rattle.trace.specs.Tree.{state, childrenOf, walkOf}
+use Rattle.trace.specs.Counted.{counted}
+use Rattle.trace.proofs.Pages.{table-opens, few-cells}
+use Rattle.trace.proofs.Steps.{Entered, enter-refused, enter-leaf, enter-interior, children-out, children-stop, children-on, children-end}
 use Rattle.walk.proofs.walk.Reads as walk
 use Rattle.walk.proofs.walk.Kinds as walk-kinds
 use Rattle.walk.proofs.+walk.Lts-walk as lts
-use Rattle.walk.proofs.child_placed.Reads as child-placed
+use Rattle.order.proofs.child_placed.Reads as child-placed
 use Rattle.walk.proofs.enter.Reads as enter
 use Rattle.walk.proofs.last_child.Reads as last-child
 use Rattle.walk.proofs.leaf.Reads as leaf

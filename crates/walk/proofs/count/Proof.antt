@@ -5,7 +5,7 @@ use Rattle.reading.specs.declared.Reading.the-variants.{File as file}
 use Rattle.shape.specs.Shape.{shapeOf}
 use Rattle.shape.proofs.Laws.{shape-answered, shape-unanswered}
 use Rattle.walk.specs.Counted.{countBy, countOf}
-use Rattle.walk.proofs.Steps.{table-flawed, table-shaped}
+use Rattle.trace.proofs.Steps.{table-flawed, table-shaped}
 use borrow.Author.Needs.{needs}
 use Rattle.walk.proofs.count.Statement.{statement}
 use Rattle.walk.proofs.count.Tie as tie

@@ -1,6 +1,6 @@
 -- The visits first, then the depth.
 use borrow.Author.Tests.{eq-eqb, ne-eqb}
-use Rattle.walk.specs.Table.{entered}
+use Rattle.trace.specs.Table.{entered}
 use borrow.Author.Needs.{needs}
 use Rattle.walk.proofs.enter.Statement.{statement}
 use Rattle.walk.proofs.enter.Tie as tie

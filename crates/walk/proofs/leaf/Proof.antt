@@ -7,9 +7,9 @@ use denote.Ref.{now}
 use mir.Syntax.{w64}
 use mir.Val.{toZ, ofZ}
 use mir.Facts.{toZ-ofZ}
-use Rattle.walk.specs.Tree.{state, leafOf}
-use Rattle.walk.specs.Counted.{counted}
-use Rattle.walk.proofs.Steps.{leaf-out, leaf-on, leaf-end}
+use Rattle.trace.specs.Tree.{state, leafOf}
+use Rattle.trace.specs.Counted.{counted}
+use Rattle.trace.proofs.Steps.{leaf-out, leaf-on, leaf-end}
 use borrow.Author.Needs.{needs}
 use Rattle.walk.proofs.leaf.Statement.{statement}
 use Rattle.walk.proofs.leaf.Tie as tie

@@ -4,7 +4,7 @@ use denote.Ref.{now}
 use Rattle.place.specs.Place.{filePage}
 use Rattle.page.specs.Open.{openOf}
 use Rattle.page.proofs.Laws.{open-answered, open-unanswered}
-use Rattle.walk.specs.Table.{tableAt}
+use Rattle.trace.specs.Table.{tableAt}
 use borrow.Author.Needs.{needs}
 use Rattle.walk.proofs.table_at.Statement.{statement}
 use Rattle.walk.proofs.table_at.Tie as tie

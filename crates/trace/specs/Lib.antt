@@ -1,0 +1,4 @@
+pub mod Walk
+pub mod Table
+pub mod Tree
+pub mod Counted

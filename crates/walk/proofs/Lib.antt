@@ -1,3 +1,0 @@
-pub mod Placed
-pub mod Pages
-pub mod Steps
