@@ -74,11 +74,13 @@ impl<'a, 't> Truck<'a, 't> {
     }
 
     /// Its database.
+    #[must_use]
     pub fn gauge(&self) -> Gauge<'a> {
         self.gauge
     }
 
     /// How many places its half has.
+    #[must_use]
     pub fn places(&self) -> usize {
         self.half.len()
     }
@@ -87,6 +89,9 @@ impl<'a, 't> Truck<'a, 't> {
     /// refusal, and the half is as it was. A page with more cells than the half has places is refused with 19.
     ///
     /// The guarded reading has no such call: of its pages the file reading's entries are told.
+    ///
+    /// # Errors
+    /// The header's and the page's refusals, 19 where the half has fewer places than the page has cells, and that of the first cell that is refused.
     pub fn page(&mut self, reading: Reading, pageno: u32) -> Result<Head, Refusal> {
         let head = self.gauge.page_call(reading, pageno, self.half)?;
         self.last = (reading, head.no_cells);
@@ -94,6 +99,7 @@ impl<'a, 't> Truck<'a, 't> {
     }
 
     /// The entries of the last page that was accepted; none before the first.
+    #[must_use]
     pub fn entries(&self) -> impl ExactSizeIterator<Item = Entry> + '_ {
         let (reading, cells) = self.last;
         self.half[..cells].iter().map(move |slot| Entry::of(reading, slot))

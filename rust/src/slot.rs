@@ -14,6 +14,7 @@ pub struct Slot {
 
 impl Slot {
     /// Whether no page call has filled it.
+    #[must_use]
     pub fn is_blank(&self) -> bool {
         // Every kind of page has a number of its own, and none has 0.
         self.kind == 0
