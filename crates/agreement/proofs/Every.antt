@@ -6,9 +6,10 @@ use Rattle.answers.specs.declared.Fault.the-variants as fa
 use Rattle.answers.specs.Answer.{refused}
 use Rattle.kinds.specs.declared.Kind.{Kind}
 use Rattle.kinds.specs.declared.Kind.the-variants.{InteriorIndex, InteriorTable, LeafIndex, LeafTable}
+use Rattle.kinds.specs.Kind.{isLeafTable}
 use Rattle.page.specs.declared.Open.{Open}
 use Rattle.cells.proofs.Laws.{held}
-use Rattle.guarded.specs.Guarded.{isLeafTable, unmarked}
+use Rattle.guarded.specs.Guarded.{unmarked}
 use Rattle.guarded.proofs.Guard.{guardedBy, other-in, leaf-in, guarded-in, guarded-again}
 use Rattle.agreement.specs.Agreement.{EveryOpenGuarded}
 

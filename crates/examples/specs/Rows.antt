@@ -14,7 +14,7 @@ use Rattle.answers.specs.declared.Fault.the-variants as fa
 use Rattle.answers.specs.declared.Mark.the-variants as ma
 use Rattle.header.specs.Header.{opening}
 use Rattle.cells.specs.Located.{rowNumber}
-use Rattle.agreement.specs.Shows.{null, integer, text, Row, none, row, oldShows, fileShows, guardedShows}
+use Rattle.agreement.specs.Shows.{null, integer, text, blob, Row, none, row, oldShows, fileShows, guardedShows}
 
 -- the bytes of a varint, or a payload and what stands behind it on its page
 pub data Given : Type 0 where
@@ -89,13 +89,20 @@ table =
     ∷ (payload (3 ∷ 9 ∷ 4 ∷ 1 ∷ 0 ∷ 0 ∷ 0 ∷ []) [] ⟹ rows (ints (pos 0 ∷ pos 16777216 ∷ [])) (ints (pos 1 ∷ pos 16777216 ∷ [])) (in-file (fa.Marked ma.StoredOne)))
     ∷ (payload (3 ∷ 8 ∷ 4 ∷ 1 ∷ 0 ∷ 0 ∷ 0 ∷ []) [] ⟹ all (ints (pos 0 ∷ pos 16777216 ∷ [])))
     ∷ (payload (2 ∷ 13 ∷ []) [] ⟹ rows (row (pos 1) (null ∷ [])) (row (pos 1) (text [] ∷ [])) (in-file (fa.Marked ma.EmptyValue)))
+    ∷ (payload (2 ∷ 12 ∷ []) [] ⟹ rows (row (pos 1) (null ∷ [])) (row (pos 1) (blob [] ∷ [])) (in-file (fa.Marked ma.EmptyValue)))
     ∷ (payload (2 ∷ 10 ∷ []) [] ⟹ refusals (fa.TypeReserved 0))
+    ∷ (payload (2 ∷ 3 ∷ 1 ∷ 2 ∷ 3 ∷ []) [] ⟹ all (ints (pos 66051 ∷ [])))
     ∷ (payload (2 ∷ 3 ∷ 0x80 ∷ 0 ∷ 0 ∷ []) [] ⟹ all (ints (negsuc 8388607 ∷ [])))
+    ∷ (payload (2 ∷ 6 ∷ 0x80 ∷ replicate 7 0) [] ⟹ all (ints (negsuc 9223372036854775807 ∷ [])))
+    ∷ (payload (3 ∷ 1 ∷ 1 ∷ 7 ∷ 8 ∷ []) [] ⟹ all (ints (pos 7 ∷ pos 8 ∷ [])))
     ∷ (payload (2 ∷ 5 ∷ 0xff ∷ 0xff ∷ 0xff ∷ 0xff ∷ 0xff ∷ 0xfe ∷ []) [] ⟹ all (ints (negsuc 1 ∷ [])))
     ∷ (payload (0x80 ∷ 3 ∷ 1 ∷ 5 ∷ []) [] ⟹ rows (in-old (fa.ValueUnfit 0)) (ints (pos 5 ∷ [])) (in-file (fa.Marked ma.WideHeaderSize)))
     -- a header size in two bytes that does no harm: a byte that ends no type stands behind the record
     ∷ (payload (0x80 ∷ 3 ∷ 8 ∷ []) (0xff ∷ []) ⟹ rows (ints (pos 0 ∷ [])) (ints (pos 0 ∷ [])) (in-file (fa.Marked ma.WideHeaderSize)))
     ∷ (payload (3 ∷ 1 ∷ 0x81 ∷ 5 ∷ []) [] ⟹ rows (ints (pos 5 ∷ [])) (in-file fa.HeaderUnfit) (in-file fa.HeaderUnfit))
+    -- a type in six bytes, which the old reading takes for the end of the types, and a byte behind the last value
+    ∷ (payload (7 ∷ 0x80 ∷ 0x80 ∷ 0x80 ∷ 0x80 ∷ 0x80 ∷ 8 ∷ []) [] ⟹ rows (row (pos 1) []) (ints (pos 0 ∷ [])) (in-file (fa.Marked ma.LongVarint)))
+    ∷ (payload (2 ∷ 1 ∷ 5 ∷ 6 ∷ []) [] ⟹ rows (ints (pos 5 ∷ [])) (in-file (fa.ValueUnfit 1)) (in-file (fa.ValueUnfit 1)))
     ∷ []
 
 abbrev pub Worked : Type 0

@@ -16,7 +16,7 @@ ghost use Rattle.filled.specs.Run.{filledBy, over};
 ghost use Rattle.filled.specs.Row.{rowBy, rowOver};
 ghost use Rattle.gathered.specs.Rows.{rowLent, tableLent, bufferLent};
 ghost use Rattle.chosen.specs.Chosen.{chosenBy};
-ghost use Rattle.screen.specs.Screen.{screened, answersOver};
+ghost use Rattle.addresses.specs.Screen.{screened, answersOver};
 ghost use Rattle.exports.specs.Calls.{headerOf, pagesOf, countedRows, listedRows, rowsOver, countedTrusted, listedTrusted, trustedOver, headOf, entryOf, entriesOver, openingOf, rowIn, oldCell, fileCell, guardedCell, oldRun, fileRun, oldShownOf, fileShownOf, guardedShownOf, fileLentOf, guardedLentOf, cellLent};
 use columns::Cursor;
 use filled::run;

@@ -10,6 +10,7 @@ use Rattle.answers.specs.declared.Refusal.{Refusal}
 use Rattle.answers.specs.Answer.{Answer, refused, shown, _>>=_}
 use Rattle.kinds.specs.declared.Kind.{Kind}
 use Rattle.kinds.specs.declared.Kind.the-variants.{InteriorIndex, InteriorTable, LeafIndex, LeafTable}
+use Rattle.kinds.specs.Kind.{isLeafTable}
 use Rattle.marks.specs.declared.Marking.{Marking}
 use Rattle.marks.specs.declared.Marking.the-variants.{Clear, By}
 use Rattle.marks.specs.Marks.{markOf}
@@ -24,7 +25,7 @@ use Rattle.cells.specs.Located as cells
 use Rattle.cells.specs.Located.{Located}
 use Rattle.cells.proofs.Laws.{located-open, located-unopened}
 use Rattle.row.proofs.Placed.{Placed, placed-in}
-use Rattle.guarded.specs.Guarded.{isLeafTable, leafOnly, openOf, unmarked, locatedIn, locatedOf}
+use Rattle.guarded.specs.Guarded.{leafOnly, openOf, unmarked, locatedIn, locatedOf}
 
 -- THE KIND
 

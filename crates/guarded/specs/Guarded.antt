@@ -10,7 +10,7 @@ use Rattle.answers.specs.declared.Refusal.the-variants.{InCell}
 use Rattle.answers.specs.declared.Fault.the-variants as fa
 use Rattle.answers.specs.Answer.{Answer, refused, shown, _>>=_}
 use Rattle.kinds.specs.declared.Kind.{Kind}
-use Rattle.kinds.specs.declared.Kind.the-variants.{InteriorIndex, InteriorTable, LeafIndex, LeafTable}
+use Rattle.kinds.specs.Kind.{isLeafTable}
 use Rattle.marks.specs.declared.Marking.{Marking}
 use Rattle.marks.specs.declared.Marking.the-variants.{Clear, By}
 use Rattle.marks.specs.Marks.{markOf}
@@ -30,12 +30,6 @@ use Rattle.row.specs.Row.{cursorBy}
 use Rattle.row_head.specs.Head.{countBy, rowBy}
 use Rattle.row.specs.Column.{columnBy}
 use Rattle.row_values.specs.File.{shownBy}
-
-abbrev pub isLeafTable : Kind → Bool
-isLeafTable InteriorIndex = false
-isLeafTable InteriorTable = false
-isLeafTable LeafIndex = false
-isLeafTable LeafTable = true
 
 -- a page of another kind is refused where the file reading would go on
 abbrev pub leafOnly : {A : Type 0} → Page → Kind → A → Answer Refusal A

@@ -10,12 +10,11 @@ ghost use Rattle.columns.specs.Columns.{typesAt};
 ghost use Rattle.marks.specs.Marks.{lowest};
 ghost use Rattle.page.specs.Open.{openAnswer};
 ghost use Rattle.row.specs.Found.{foundBy};
-ghost use Rattle.guarded.specs.Guarded.{isLeafTable, openOf, locatedIn, locatedOf, countOf, rowOf, cursorOf, shownOf};
+ghost use Rattle.guarded.specs.Guarded.{openOf, locatedIn, locatedOf, countOf, rowOf, cursorOf, shownOf};
 use answers::Fault;
 use answers::Reason;
 use answers::Refusal;
 use cell::Cell;
-use kinds::Kind;
 use marks::Marking;
 use page::Open;
 use page::OpenAnswer;
@@ -28,17 +27,6 @@ use row_values::file::ValueAnswer;
 use site::SiteAnswer;
 use varint::Number;
 
-fn is_leaf_table(kind: Kind) -> bool
-    ensures { λ r. ⌜ r ≡ isLeafTable kind ⌝ }
-{
-    match kind {
-        Kind::InteriorIndex => false,
-        Kind::InteriorTable => false,
-        Kind::LeafIndex => false,
-        Kind::LeafTable => true,
-    }
-}
-
 // The table leaf of that number.
 pub fn open_page(db: &[u8], number: u32) -> OpenAnswer
     ensures { λ r. ⌜ r ≡ openAnswer (openOf number (now (db .entry))) ⌝ }
@@ -49,7 +37,7 @@ pub fn open_page(db: &[u8], number: u32) -> OpenAnswer
         SiteAnswer::Shown(site) => {
             let page = site.page;
             let kind = site.kind;
-            if is_leaf_table(kind) {
+            if kind.is_leaf_table() {
                 return page::open_site(db, site);
             }
             OpenAnswer::Refused(Refusal::OnPage {
@@ -91,7 +79,7 @@ pub fn found_in(db: &[u8], opened: Open, i: usize) -> FoundAnswer
 {
     let page = opened.page;
     let kind = opened.kind;
-    if !is_leaf_table(kind) {
+    if !kind.is_leaf_table() {
         return FoundAnswer::Refused(Refusal::OnPage {
             page: page.number,
             reason: Reason::KindUnfit,

@@ -8,6 +8,7 @@ use Rattle.laws.proofs.Never.{never}
 use Rattle.answers.specs.declared.Refusal.{Refusal}
 use Rattle.answers.specs.Answer.{Answer, refused, shown, _>>=_}
 use Rattle.kinds.specs.declared.Kind.the-variants.{LeafTable}
+use Rattle.kinds.specs.Kind.{isLeafTable}
 use Rattle.marks.specs.declared.Marking.{Marking}
 use Rattle.marks.specs.declared.Marking.the-variants.{Clear, By}
 use Rattle.marks.specs.Marks.{markOf, orSpilled}
@@ -74,7 +75,7 @@ module _ (o : Open) (i room : ℕ) (db : List ℕ) where
 
   pub every-judged : o .kind ≡ LeafTable → Judged (o .page) i (lentIn o i room db) (marked.lentIn o i room db)
   every-judged leaf =
-      rw (lent-instead o i room db, marked-instead o i room db, leaf-in o i db (ap guarded.isLeafTable leaf))
+      rw (lent-instead o i room db, marked-instead o i room db, leaf-in o i db (ap isLeafTable leaf))
       (by-located (locatedIn o i db) refl)
 
 pub every-open-refuses : EveryOpenRefuses
@@ -92,7 +93,7 @@ guarded-refuses number i room db s e k = go (openFrom s db) refl
     file-opened = open-site page db e
 
     leaf-opens : guarded.openOf number db ≡ openFrom s db
-    leaf-opens = site-leaf number db e (ap guarded.isLeafTable k)
+    leaf-opens = site-leaf number db e (ap isLeafTable k)
 
     go : (x : Answer Refusal Open) → openFrom s db ≡ x → Judged page i (lentOf page i room db) (marked.lentOf number i room db)
     go (refused refusal) q =

@@ -25,6 +25,13 @@ interior InteriorTable = true
 interior LeafIndex = false
 interior LeafTable = false
 
+-- the one kind that has rows
+abbrev pub isLeafTable : Kind → Bool
+isLeafTable InteriorIndex = false
+isLeafTable InteriorTable = false
+isLeafTable LeafIndex = false
+isLeafTable LeafTable = true
+
 abbrev pub hasSize : Kind → Bool
 hasSize InteriorIndex = true
 hasSize InteriorTable = false

@@ -1,7 +1,7 @@
 // The four kinds of b-tree page, and what a cell of each has: file format, 1.6 "B-tree Pages".
 ghost use mathlib.Core.Path.{_≡_};
 ghost use Prim.Native.Nat.{_-_, _*_, _/_};
-ghost use Rattle.kinds.specs.Kind.{kindByte, interior, hasSize, hasRow, hasClosing, childBytes, mostWhole};
+ghost use Rattle.kinds.specs.Kind.{kindByte, interior, isLeafTable, hasSize, hasRow, hasClosing, childBytes, mostWhole};
 use parts::less;
 use reading::Reading;
 
@@ -32,6 +32,18 @@ impl Kind {
             Kind::InteriorTable => true,
             Kind::LeafIndex => false,
             Kind::LeafTable => false,
+        }
+    }
+
+    // Whether it is a leaf of a table: the one kind that has rows.
+    pub fn is_leaf_table(self) -> bool
+        ensures { λ r. ⌜ r ≡ isLeafTable self ⌝ }
+    {
+        match self {
+            Kind::InteriorIndex => false,
+            Kind::InteriorTable => false,
+            Kind::LeafIndex => false,
+            Kind::LeafTable => true,
         }
     }
 

@@ -5,3 +5,4 @@ pub mod Casts
 pub mod Parts
 pub mod Never
 pub mod Bools
+pub mod Stores

@@ -1,18 +1,15 @@
 -- A list into which rows are stored: what it holds, with the rows that are still to come, is what it is to hold.
-use Prim.Native.Nat.{ℕ, suc, _+_, _*_, _≤_}
+use Prim.Native.Nat.{ℕ, _+_, _*_, _≤_}
 use mathlib.Core.Path.{_≡_, refl, sym, ap, _∙_}
 use mathlib.Core.List.{List, [], _∷_, _++_}
-use native.Mathlib.Nat.{add-zero, add-suc, suc-add, add-assoc}
+use native.Mathlib.Nat.{add-assoc}
 use native.Mathlib.Omega.{arith}
 use lib.IntN.{ℤ}
-use lib.ListN.{length, length-append, set, drop}
+use lib.ListN.{length, length-append, drop}
 use lib.Seq.{sets, length-sets, sets-eq}
+use Rattle.laws.proofs.Stores.{sets-on}
 use Rattle.trace.specs.Walk.{Row}
 use Rattle.listing.specs.Listed.{wordsOf, words}
-
-sets-on : (some more list : List ℤ) (at : ℕ) → sets list at (some ++ more) ≡ sets (sets list at some) (at + length some) more
-sets-on [] more list at = rw add-zero
-sets-on (w ∷ some) more list at = sets-on some more (set list at w) (suc at) ∙ rw (suc-add at (length some), add-suc at (length some))
 
 words-on : (some rest : List Row) → words (some ++ rest) ≡ words some ++ words rest
 words-on [] rest = refl

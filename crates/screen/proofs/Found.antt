@@ -21,8 +21,8 @@ use Rattle.turns.specs.declared.types.Shown.{Shown}
 use Rattle.chosen.specs.declared.Chosen.{Chosen}
 use Rattle.chosen.specs.Chosen.{shownOf, readingOf, isGuarded, openOf, locatedIn, refusedShown, foundShown}
 use Rattle.chosen.proofs.Laws.{shown-unopened, shown-opened}
-use Rattle.screen.specs.Screen.{Address, address}
-use Rattle.screen.specs.Turns.{InCell, OnPage, Single, pageAt, cellAt}
+use Rattle.addresses.specs.Screen.{Address, address}
+use Rattle.addresses.specs.Turns.{CellAnswers, PageAnswers, Single, namedPage, namedCell}
 
 pub found-checked : (g : Bool) (o : Open) (i : ℕ) (db : List ℕ) {f : FoundCell} → foundBy (locatedIn g o i db) ≡ fo.Shown f
     → Whole (f .cursor) (f .cell .columns) db
@@ -34,29 +34,29 @@ found-checked false o i db e =
     subst (λ (f : FoundCell). Whole (f .cursor) (f .cell .columns) db) (t .same) (in-place o i db (t .is))
 
 -- what the cells of a page are answered is what one of them is
-pub found-asked : (r : Reading) (g : Bool) (o : Open) (db addresses : List ℕ) (at i : ℕ) {cell : ℕ} {x : FoundAnswer} → pageAt i addresses ≡ pageAt at addresses
-    → cell ≡ cellAt i addresses → foundBy (locatedIn g o cell db) ≡ x → (f : Address → Shown)
-    → OnPage (pageAt at addresses) (λ j. foundShown r (pageAt at addresses) db (foundBy (locatedIn g o j db))) f
-    → InCell (pageAt i addresses) (cellAt i addresses) (foundShown r (pageAt i addresses) db x) f
+pub found-asked : (r : Reading) (g : Bool) (o : Open) (db addresses : List ℕ) (at i : ℕ) {cell : ℕ} {x : FoundAnswer} → namedPage i addresses ≡ namedPage at addresses
+    → cell ≡ namedCell i addresses → foundBy (locatedIn g o cell db) ≡ x → (f : Address → Shown)
+    → PageAnswers (namedPage at addresses) (λ j. foundShown r (namedPage at addresses) db (foundBy (locatedIn g o j db))) f
+    → CellAnswers (namedPage i addresses) (namedCell i addresses) (foundShown r (namedPage i addresses) db x) f
 found-asked r g o db addresses at i {cell} {x} p q e f must k =
-    ap (λ (n : ℕ). f (address n (cellAt i addresses) k)) p
-    ∙ must (cellAt i addresses) k
-    ∙ ap (λ (n : ℕ). foundShown r n db (foundBy (locatedIn g o (cellAt i addresses) db)) k) (sym p)
-    ∙ ap (λ (j : ℕ). foundShown r (pageAt i addresses) db (foundBy (locatedIn g o j db)) k) (sym q)
-    ∙ ap (λ (z : FoundAnswer). foundShown r (pageAt i addresses) db z k) e
+    ap (λ (n : ℕ). f (address n (namedCell i addresses) k)) p
+    ∙ must (namedCell i addresses) k
+    ∙ ap (λ (n : ℕ). foundShown r n db (foundBy (locatedIn g o (namedCell i addresses) db)) k) (sym p)
+    ∙ ap (λ (j : ℕ). foundShown r (namedPage i addresses) db (foundBy (locatedIn g o j db)) k) (sym q)
+    ∙ ap (λ (z : FoundAnswer). foundShown r (namedPage i addresses) db z k) e
 
 -- BY THE PAGE: what the single call answers, where the page is refused and where it is opened
 
 module _ (chosen : Chosen) (db : List ℕ) {page number : ℕ} (p : page ≡ number) where
   pub refused-asked : {refusal : Refusal} → openOf chosen page db ≡ refused refusal → {cell : ℕ} → (f : Address → Shown) → Single chosen db f
-      → InCell number cell (λ k. refusedShown refusal) f
+      → CellAnswers number cell (λ k. refusedShown refusal) f
   refused-asked e {cell} f single k =
       single (address number cell k)
       ∙ ap (λ (n : ℕ). shownOf chosen n cell k db) (sym p)
       ∙ shown-unopened page db chosen e cell k
 
   pub opened-asked : {o : Open} {r : Reading} {g : Bool} → openOf chosen page db ≡ shown o → r ≡ readingOf chosen → g ≡ isGuarded chosen
-      → (f : Address → Shown) → Single chosen db f → OnPage number (λ i. foundShown r number db (foundBy (locatedIn g o i db))) f
+      → (f : Address → Shown) → Single chosen db f → PageAnswers number (λ i. foundShown r number db (foundBy (locatedIn g o i db))) f
   opened-asked {o} {r} {g} e d b f single i k =
       single (address number i k)
       ∙ ap (λ (n : ℕ). shownOf chosen n i k db) (sym p)

@@ -1,2 +1,1 @@
-pub mod Screen
-pub mod Turns
+pub mod Coming

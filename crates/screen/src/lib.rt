@@ -11,8 +11,8 @@ ghost use Prim.Native.Nat.{_<_};
 ghost use lib.ListN.{length};
 ghost use Rattle.chosen.specs.Chosen.{foundShown, locatedIn};
 ghost use Rattle.row.specs.Found.{foundBy};
-ghost use Rattle.screen.specs.Screen.{screened, answersOver};
-ghost use Rattle.screen.specs.Turns.{Room, pageAt, Turn, OnPage, Single};
+ghost use Rattle.addresses.specs.Screen.{screened, answersOver};
+ghost use Rattle.addresses.specs.Turns.{Room, namedPage, Turn, PageAnswers, Single};
 use crate::rows::in_row;
 use crate::rows::refused_in;
 use crate::words::cell_at;
@@ -42,8 +42,8 @@ fn on_open(
     answers: &mut [i64],
 ) -> usize
     requires { ⌜ Room count (now addresses) (now answers) × (at < count) ⌝ }
-    ensures { λ r. ⌜ Turn (OnPage (pageAt at (now (addresses .entry)))
-        (λ i. foundShown reading (pageAt at (now (addresses .entry))) (now (db .entry)) (foundBy (locatedIn guarded opened i (now (db .entry))))))
+    ensures { λ r. ⌜ Turn (PageAnswers (namedPage at (now (addresses .entry)))
+        (λ i. foundShown reading (namedPage at (now (addresses .entry))) (now (db .entry)) (foundBy (locatedIn guarded opened i (now (db .entry))))))
         count (now (addresses .entry)) at r (now (answers .entry)) (now (answers .exit)) ⌝ }
 {
     let page = page_at(addresses, at);

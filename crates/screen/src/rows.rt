@@ -7,7 +7,8 @@ ghost use Rattle.columns.specs.Columns.{slotOf, behind};
 ghost use Rattle.checked.specs.Whole.{Whole, bytesIn};
 ghost use Rattle.checked.specs.Past.{pastOf};
 ghost use Rattle.chosen.specs.Chosen.{refusedShown, slotShown};
-ghost use Rattle.screen.specs.Turns.{Room, pageAt, cellAt, sameCell, Turn, InCell, Coming, typeAt, valueIn};
+ghost use Rattle.addresses.specs.Turns.{Room, namedPage, namedCell, sameCell, Turn, CellAnswers};
+ghost use Rattle.screen.specs.Coming.{Coming, typeAt, valueOfPart};
 use crate::words::cell_at;
 use crate::words::column_at;
 use crate::words::page_at;
@@ -59,7 +60,7 @@ pub fn refused_in(
     answers: &mut [i64],
 ) -> usize
     requires { ⌜ Room count (now addresses) (now answers) × (at < count) ⌝ }
-    ensures { λ r. ⌜ Turn (InCell (pageAt at (now (addresses .entry))) (cellAt at (now (addresses .entry))) (λ k. refusedShown refusal))
+    ensures { λ r. ⌜ Turn (CellAnswers (namedPage at (now (addresses .entry))) (namedCell at (now (addresses .entry))) (λ k. refusedShown refusal))
         count (now (addresses .entry)) at r (now (answers .entry)) (now (answers .exit)) ⌝ }
 {
     let shown = refused_shown(refusal);
@@ -121,7 +122,7 @@ fn past(db: &[u8], first: Cursor, columns: usize, k: usize) -> Cursor
 
 // The value of a type whose bytes begin the part, which stands at `at`.
 fn value_of(part: &[u8], reading: Reading, serial: u64, at: usize) -> Value
-    ensures { λ r. ⌜ r ≡ valueIn reading serial at (now (part .entry)) ⌝ }
+    ensures { λ r. ⌜ r ≡ valueOfPart reading serial at (now (part .entry)) ⌝ }
 {
     match reading {
         Reading::Old => old_value(values::old::value_of(serial, part, at)),
@@ -142,8 +143,8 @@ pub fn in_row(
     answers: &mut [i64],
 ) -> usize
     requires { ⌜ Whole first columns (now db) × Room count (now addresses) (now answers) × (at < count) ⌝ }
-    ensures { λ r. ⌜ Turn (InCell (pageAt at (now (addresses .entry))) (cellAt at (now (addresses .entry)))
-        (λ k. slotShown reading (pageAt at (now (addresses .entry))) (now (db .entry)) (slotOf k first (now (db .entry)))))
+    ensures { λ r. ⌜ Turn (CellAnswers (namedPage at (now (addresses .entry))) (namedCell at (now (addresses .entry)))
+        (λ k. slotShown reading (namedPage at (now (addresses .entry))) (now (db .entry)) (slotOf k first (now (db .entry)))))
         count (now (addresses .entry)) at r (now (answers .entry)) (now (answers .exit)) ⌝ }
 {
     let mut here = first;

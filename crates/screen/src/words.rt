@@ -5,7 +5,7 @@ ghost use Prim.Native.Nat.{_+_, _*_, _/_, _^_, _≤_, _<_};
 ghost use lib.ListN.{length};
 ghost use lib.Seq.{sets};
 ghost use Rattle.turns.specs.Words.{wordsOf, refusedWords, shownWords};
-ghost use Rattle.screen.specs.Turns.{pageAt, cellAt, columnAt};
+ghost use Rattle.addresses.specs.Turns.{namedPage, namedCell, namedColumn};
 use fields::signed_of;
 use turns::types::Refused;
 use turns::types::Shown;
@@ -29,21 +29,21 @@ pub fn places_of(words: usize) -> usize
 
 pub fn page_at(addresses: &[u64], i: usize) -> u32
     requires { ⌜ 3 * i + 3 ≤ length (now addresses) ⌝ }
-    ensures { λ r. ⌜ r ≡ pageAt i (now (addresses .entry)) ⌝ }
+    ensures { λ r. ⌜ r ≡ namedPage i (now (addresses .entry)) ⌝ }
 {
     (addresses[3 * i] % 4_294_967_296) as u32
 }
 
 pub fn cell_at(addresses: &[u64], i: usize) -> usize
     requires { ⌜ 3 * i + 3 ≤ length (now addresses) ⌝ }
-    ensures { λ r. ⌜ r ≡ cellAt i (now (addresses .entry)) ⌝ }
+    ensures { λ r. ⌜ r ≡ namedCell i (now (addresses .entry)) ⌝ }
 {
     addresses[3 * i + 1] as usize
 }
 
 pub fn column_at(addresses: &[u64], i: usize) -> usize
     requires { ⌜ 3 * i + 3 ≤ length (now addresses) ⌝ }
-    ensures { λ r. ⌜ r ≡ columnAt i (now (addresses .entry)) ⌝ }
+    ensures { λ r. ⌜ r ≡ namedColumn i (now (addresses .entry)) ⌝ }
 {
     addresses[3 * i + 2] as usize
 }

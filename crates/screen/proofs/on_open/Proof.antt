@@ -13,9 +13,9 @@ use Rattle.page.specs.declared.Open.{Open}
 use Rattle.row.specs.Found.{foundBy}
 use Rattle.turns.specs.declared.types.Shown.{Shown}
 use Rattle.chosen.specs.Chosen.{locatedIn, foundShown}
-use Rattle.screen.specs.Screen.{Address}
-use Rattle.screen.specs.Turns.{Room, Turn, OnPage, pageAt}
-use Rattle.screen.proofs.Lists.{Going, going-first, going-turned, turn-as, going-on}
+use Rattle.addresses.specs.Screen.{Address}
+use Rattle.addresses.specs.Turns.{Room, Turn, PageAnswers, namedPage}
+use Rattle.addresses.proofs.Lists.{Going, going-first, going-turned, turn-as, going-on}
 use Rattle.screen.proofs.Found.{found-checked, found-asked}
 use Rattle.screen.proofs.on_open.Statement.{statement}
 use Rattle.screen.proofs.on_open.Tie as tie
@@ -23,13 +23,13 @@ use Rattle.screen.proofs.on_open.Tie as tie
 -- what the cells of the page are answered
 abbrev Cells : List ℕ → Reading → Bool → Open → ℕ → List ℕ → (Address → Shown) → Type 0
 Cells db reading guarded opened at addresses =
-    OnPage (pageAt at addresses) (λ i. foundShown reading (pageAt at addresses) db (foundBy (locatedIn guarded opened i db)))
+    PageAnswers (namedPage at addresses) (λ i. foundShown reading (namedPage at addresses) db (foundBy (locatedIn guarded opened i db)))
 
 abbrev Inv-loop : tie.InvT-loop
 Inv-loop db reading guarded opened at count addresses answers₀ page i₀ answers i =
     Going (Cells db reading guarded opened at addresses) count addresses at i answers₀ answers
-    × (page ≡ pageAt at addresses)
-    × (pageAt i addresses ≡ pageAt at addresses)
+    × (page ≡ namedPage at addresses)
+    × (namedPage i addresses ≡ namedPage at addresses)
     × (3 * count ≤ length addresses)
     × (8 * count ≤ length answers₀)
     × (8 * count < 2 ^ 64)

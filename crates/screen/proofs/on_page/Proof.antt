@@ -5,7 +5,7 @@ use denote.Ref.{now}
 use borrow.Author.Needs.{needs}
 use Rattle.page.proofs.Laws.{open-answered, open-unanswered}
 use Rattle.chosen.specs.Chosen.{openOf}
-use Rattle.screen.proofs.Lists.{going-first, going-turned}
+use Rattle.addresses.proofs.Lists.{going-first, going-turned}
 use Rattle.screen.proofs.Found.{refused-asked, opened-asked}
 use Rattle.screen.proofs.on_page.Statement.{statement}
 use Rattle.screen.proofs.on_page.Tie as tie

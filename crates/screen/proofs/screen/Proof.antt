@@ -6,9 +6,9 @@ use lib.ListN.{length}
 use denote.Ref.{now}
 use borrow.Author.Needs.{needs}
 use borrow.Author.Tests.{lt-ltb, le-ltb}
-use Rattle.screen.specs.Screen.{answerTo}
-use Rattle.screen.specs.Turns.{rest}
-use Rattle.screen.proofs.Lists.{rest-all, rest-end}
+use Rattle.addresses.specs.Screen.{answerTo}
+use Rattle.addresses.specs.Turns.{rest}
+use Rattle.addresses.proofs.Lists.{rest-all, rest-end}
 use Rattle.screen.proofs.screen.Statement.{statement}
 use Rattle.screen.proofs.screen.Tie as tie
 

@@ -15,9 +15,9 @@ use Rattle.columns.specs.declared.Cursor.{Cursor}
 use Rattle.columns.specs.Columns.{slotOf}
 use Rattle.turns.specs.declared.types.Shown.{Shown}
 use Rattle.chosen.specs.Chosen.{slotShown, refusedShown}
-use Rattle.screen.specs.Screen.{Address}
-use Rattle.screen.specs.Turns.{Turn, InCell, pageAt, cellAt}
-use Rattle.screen.proofs.Lists.{Going, Same, going-first, addressAt, going-stored, going-on, same-cell, same-address, same-first}
+use Rattle.addresses.specs.Screen.{Address}
+use Rattle.addresses.specs.Turns.{Turn, CellAnswers, namedPage, namedCell}
+use Rattle.addresses.proofs.Lists.{Going, Same, going-first, addressAt, going-stored, going-on, same-cell, same-address, same-first}
 use Rattle.screen.proofs.Columns.{Before, before-first, past-before, coming, type-ends, value-ends, before-next, column-here, none-behind, shown-found}
 use Rattle.screen.proofs.rows.in_row.Statement.{statement}
 use Rattle.screen.proofs.rows.in_row.Tie as tie
@@ -25,7 +25,7 @@ use Rattle.screen.proofs.rows.in_row.Tie as tie
 -- what the columns of the row are answered
 abbrev Columns : List ℕ → Reading → Cursor → ℕ → List ℕ → (Address → Shown) → Type 0
 Columns db reading first at addresses =
-    InCell (pageAt at addresses) (cellAt at addresses) (λ k. slotShown reading (pageAt at addresses) db (slotOf k first db))
+    CellAnswers (namedPage at addresses) (namedCell at addresses) (λ k. slotShown reading (namedPage at addresses) db (slotOf k first db))
 
 abbrev Inv-loop : tie.InvT-loop
 Inv-loop db reading first columns at count addresses answers₀ here₀ column₀ i₀ answers here column i =
@@ -122,7 +122,7 @@ stored c =
     let l = c .before .before .loop in
     let i = l .inv in
     let db = now (a .db) in
-    let page = pageAt (a .at) (now (a .addresses)) in
+    let page = namedPage (a .at) (now (a .addresses)) in
     let asked : (f : Address → Shown) → Columns db (a .reading) (a .first) (a .at) (now (a .addresses)) f
     → f (addressAt (l .i) (now (a .addresses))) ≡ slotShown (a .reading) page db (slotOf (c .before .column-at .result) (a .first) db) = λ f must.
     ap f (same-address (i .1)) ∙ must _ ∙ ap (λ (k : ℕ). slotShown (a .reading) page db (slotOf k (a .first) db)) (sym (c .before .column-at .ensures)) in

@@ -2,7 +2,7 @@
 use native.Mathlib.Omega.{arith}
 use denote.Ref.{now}
 use borrow.Author.Tests.{lt-ltb, le-ltb, ne-eqb}
-use Rattle.screen.proofs.Lists.{same-told}
+use Rattle.addresses.proofs.Lists.{same-told}
 use Rattle.screen.proofs.rows.names_same.Statement.{statement}
 use Rattle.screen.proofs.rows.names_same.Tie as tie
 

@@ -12,15 +12,15 @@ use borrow.Author.Tests.{not-false}
 use Rattle.turns.specs.declared.types.Shown.{Shown}
 use Rattle.turns.specs.Words.{shownWords}
 use Rattle.chosen.specs.Chosen.{refusedShown}
-use Rattle.screen.specs.Turns.{Turn, InCell, pageAt, cellAt}
-use Rattle.screen.proofs.Lists.{Going, Same, going-first, going-stored, going-on, same-cell, same-address, same-first}
+use Rattle.addresses.specs.Turns.{Turn, CellAnswers, namedPage, namedCell}
+use Rattle.addresses.proofs.Lists.{Going, Same, going-first, going-stored, going-on, same-cell, same-address, same-first}
 use Rattle.screen.proofs.rows.refused_in.Statement.{statement}
 use Rattle.screen.proofs.rows.refused_in.Tie as tie
 
 -- the addresses so far
 abbrev Here : ℕ → ℕ → List ℕ → List ℤ → Shown → List ℤ → ℕ → Type 0
 Here at count addresses lent shown answers i =
-    Going (InCell (pageAt at addresses) (cellAt at addresses) (λ k. shown)) count addresses at i lent answers
+    Going (CellAnswers (namedPage at addresses) (namedCell at addresses) (λ k. shown)) count addresses at i lent answers
     × Same addresses count i at
     × (3 * count ≤ length addresses)
     × (8 * count ≤ length lent)
@@ -57,7 +57,7 @@ names-same-requires c κs =
 -- one answer more
 stored : (c : tie.After-answers Inv-loop μ-loop)
     → let a = c .before .before .before .before .before .before .args in let l = c .before .before .before .loop in let shown = c .before .before .before .before .refused-shown .result in
-    Turn (InCell (pageAt (a .at) (now (a .addresses))) (cellAt (a .at) (now (a .addresses))) (λ k. shown)) (a .count) (now (a .addresses)) (a .at) (l .i + 1) (now (a .answers))
+    Turn (CellAnswers (namedPage (a .at) (now (a .addresses))) (namedCell (a .at) (now (a .addresses))) (λ k. shown)) (a .count) (now (a .addresses)) (a .at) (l .i + 1) (now (a .answers))
     (sets (l .answers) (8 * l .i) (shownWords shown))
 stored c =
     let l = c .before .before .before .loop in
@@ -70,12 +70,12 @@ returns : tie.Need-returns Inv-loop μ-loop
 returns c =
     let a = c .before .before .before .before .before .before .before .before .args in
     let l = c .before .before .before .before .before .loop in
-    let p = pageAt (a .at) (now (a .addresses)) in
-    let q = cellAt (a .at) (now (a .addresses)) in
-    subst (λ (t : List ℤ). Turn (InCell p q (λ k. refusedShown (a .refusal))) (a .count) (now (a .addresses)) (a .at) (l .i + 1) (now (a .answers)) t)
+    let p = namedPage (a .at) (now (a .addresses)) in
+    let q = namedCell (a .at) (now (a .addresses)) in
+    subst (λ (t : List ℤ). Turn (CellAnswers p q (λ k. refusedShown (a .refusal))) (a .count) (now (a .addresses)) (a .at) (l .i + 1) (now (a .answers)) t)
     (sym (c .before .before .before .put .ensures))
     (subst
-    (λ (s : Shown). Turn (InCell p q (λ k. s)) (a .count) (now (a .addresses)) (a .at) (l .i + 1) (now (a .answers)) (sets (l .answers) (8 * l .i) (shownWords (c .before .before .before .before .before .before .refused-shown .result))))
+    (λ (s : Shown). Turn (CellAnswers p q (λ k. s)) (a .count) (now (a .addresses)) (a .at) (l .i + 1) (now (a .answers)) (sets (l .answers) (8 * l .i) (shownWords (c .before .before .before .before .before .before .refused-shown .result))))
     (c .before .before .before .before .before .before .refused-shown .ensures)
     (stored (c .before .before)))
 
@@ -88,7 +88,7 @@ loop-again c =
     let l = c .before .before .before .before .before .loop in
     let same = same-cell (now (a .addresses)) (a .count) (l .i + 1) (a .at) (sym (c .before .names-same .ensures) ∙ not-false _ (c .if1 .left)) in
     let shown = c .before .before .before .before .before .before .refused-shown .result in (
-      subst (λ (t : List ℤ). Going (InCell (pageAt (a .at) (now (a .addresses))) (cellAt (a .at) (now (a .addresses))) (λ k. shown)) (a .count) (now (a .addresses)) (a .at) (l .i + 1) (now (a .answers)) t)
+      subst (λ (t : List ℤ). Going (CellAnswers (namedPage (a .at) (now (a .addresses))) (namedCell (a .at) (now (a .addresses))) (λ k. shown)) (a .count) (now (a .addresses)) (a .at) (l .i + 1) (now (a .answers)) t)
           (sym (c .before .before .before .put .ensures))
           (going-on (stored (c .before .before)) (same .there)),
       same,

@@ -7,7 +7,7 @@ use lib.Seq.{sets, length-sets}
 use denote.Ref.{now}
 use borrow.Author.Needs.{needs}
 use Rattle.turns.specs.Words.{wordsOf, refusedWords}
-use Rattle.screen.proofs.Lists.{sets-on}
+use Rattle.laws.proofs.Stores.{sets-on}
 use Rattle.screen.proofs.words.put.Statement.{statement}
 use Rattle.screen.proofs.words.put.Tie as tie
 

@@ -39,6 +39,11 @@ abbrev pub wordsBy : (Address → Shown) → List Address → List ℤ
 wordsBy f [] = []
 wordsBy f (a ∷ rest) = shownWords (f a) ++ wordsBy f rest
 
+-- THE LIST AT THE END: the answers, and behind them what it held
+
+abbrev pub answeredBy : (Address → Shown) → List ℕ → List ℤ → List ℤ
+answeredBy f addresses answers = wordsBy f (addressesIn addresses) ++ drop (8 * (length addresses / 3)) answers
+
 -- THE CALL, where so many words are lent for so many words of addresses
 
 abbrev pub screened : ℕ → ℕ → Screened
@@ -46,8 +51,6 @@ screened room words =
     pick (ltb (room / 8) (words / 3)) (record { refused = refusedBy (OnPage 0 TableTooShort); count = 0 })
     (record { refused = accepted; count = words / 3 })
 
--- the list at the end: the answers, and behind them what it held
 abbrev pub answersOver : Chosen → List ℕ → List ℕ → List ℤ → List ℤ
 answersOver chosen db addresses answers =
-    pick (ltb (length answers / 8) (length addresses / 3)) answers
-    (wordsBy (answerTo chosen db) (addressesIn addresses) ++ drop (8 * (length addresses / 3)) answers)
+    pick (ltb (length answers / 8) (length addresses / 3)) answers (answeredBy (answerTo chosen db) addresses answers)

@@ -2,30 +2,25 @@
 use Prim.Native.Nat.{ℕ, suc, _+_, _*_, _/_, _≤_, _<_}
 use mathlib.Core.Path.{_≡_, refl, sym, ap, _∙_}
 use mathlib.Core.Bool.{Bool, true, false}
-use mathlib.Core.List.{List, [], _∷_, _++_}
-use native.Mathlib.Nat.{add-zero, add-suc, suc-add}
+use mathlib.Core.List.{List, [], _∷_}
 use native.Mathlib.Omega.{arith}
 use lib.Dec.{ltb, eqb}
 use lib.IntN.{ℤ}
-use lib.ListN.{length, set, drop, length-drop}
+use lib.ListN.{length, drop, length-drop}
 use lib.Seq.{sets, sets-eq, length-sets, drop-cons}
 use borrow.Author.Tests.{lt-ltb, eq-eqb, ltb-true, eqb-true}
 use Rattle.laws.specs.Pick.{pick}
 use Rattle.laws.proofs.Never.{never}
+use Rattle.laws.proofs.Stores.{sets-on}
 use Rattle.turns.specs.declared.types.Shown.{Shown}
 use Rattle.turns.specs.Words.{shownWords}
-use Rattle.screen.specs.Screen.{Address, address, addressesIn, wordsBy}
-use Rattle.screen.specs.Turns.{pageAt, cellAt, columnAt, sameCell, rest, Turn}
-
--- a run of stores in two
-pub sets-on : (some more list : List ℤ) (at : ℕ) → sets list at (some ++ more) ≡ sets (sets list at some) (at + length some) more
-sets-on [] more list at = rw add-zero
-sets-on (w ∷ some) more list at = sets-on some more (set list at w) (suc at) ∙ rw (suc-add at (length some), add-suc at (length some))
+use Rattle.addresses.specs.Screen.{Address, address, addressesIn, wordsBy, answeredBy}
+use Rattle.addresses.specs.Turns.{namedPage, namedCell, namedColumn, sameCell, rest, Turn}
 
 -- THE ADDRESSES
 
 abbrev pub addressAt : ℕ → List ℕ → Address
-addressAt i addresses = address (pageAt i addresses) (cellAt i addresses) (columnAt i addresses)
+addressAt i addresses = address (namedPage i addresses) (namedCell i addresses) (namedColumn i addresses)
 
 addresses-next : (addresses : List ℕ) (i : ℕ) → 3 * i + 3 ≤ length addresses
     → addressesIn (drop (3 * i) addresses) ≡ addressAt i addresses ∷ addressesIn (drop (3 * (i + 1)) addresses)
@@ -72,7 +67,7 @@ module _ (f : Address → Shown) (addresses : List ℕ) where
 
   -- none is yet
   pub rest-all : (answers : List ℤ) → 8 * (length addresses / 3) ≤ length answers
-      → rest f addresses 0 answers ≡ wordsBy f (addressesIn addresses) ++ drop (8 * (length addresses / 3)) answers
+      → rest f addresses 0 answers ≡ answeredBy f addresses answers
   rest-all answers h =
       let n : length (wordsBy f (addressesIn addresses)) ≡ 8 * (length addresses / 3) = words-length f (addressesIn addresses) ∙ ap (λ (k : ℕ). 8 * k) (addresses-counted addresses) in
       let m : 0 + length (wordsBy f (addressesIn addresses)) ≡ 8 * (length addresses / 3) = omega arith in
@@ -131,13 +126,13 @@ module _ {Must : (Address → Shown) → Type 0} {count : ℕ} {addresses : List
 
 pub record Same (addresses : List ℕ) (count i at : ℕ) : Type 0 where
   pub there : i < count
-  pub page : pageAt i addresses ≡ pageAt at addresses
-  pub cell : cellAt i addresses ≡ cellAt at addresses
+  pub page : namedPage i addresses ≡ namedPage at addresses
+  pub cell : namedCell i addresses ≡ namedCell at addresses
 
 pub same-cell : (addresses : List ℕ) (count i at : ℕ) → sameCell addresses count i at ≡ true → Same addresses count i at
-same-cell addresses count i at e = go (ltb i count) refl (eqb (pageAt i addresses) (pageAt at addresses)) refl (eqb (cellAt i addresses) (cellAt at addresses)) refl e
+same-cell addresses count i at e = go (ltb i count) refl (eqb (namedPage i addresses) (namedPage at addresses)) refl (eqb (namedCell i addresses) (namedCell at addresses)) refl e
   where
-    go : (a : Bool) → ltb i count ≡ a → (b : Bool) → eqb (pageAt i addresses) (pageAt at addresses) ≡ b → (c : Bool) → eqb (cellAt i addresses) (cellAt at addresses) ≡ c
+    go : (a : Bool) → ltb i count ≡ a → (b : Bool) → eqb (namedPage i addresses) (namedPage at addresses) ≡ b → (c : Bool) → eqb (namedCell i addresses) (namedCell at addresses) ≡ c
         → pick a (pick b c false) false ≡ true → Same addresses count i at
     go false x b y c z e = never cc
     go true x false y c z e = never cc
@@ -145,14 +140,14 @@ same-cell addresses count i at e = go (ltb i count) refl (eqb (pageAt i addresse
     go true x true y true z e = record { there = ltb-true i count x; page = eqb-true _ _ y; cell = eqb-true _ _ z }
 
 -- as the code comes to it, where there is an address i that names the same page
-pub same-told : (addresses : List ℕ) (count i at : ℕ) {page page′ cell cell′ : ℕ} → i < count → page ≡ pageAt i addresses → page′ ≡ pageAt at addresses → page ≡ page′
-    → cell ≡ cellAt i addresses → cell′ ≡ cellAt at addresses → eqb cell cell′ ≡ sameCell addresses count i at
-same-told addresses count i at l p p′ e c c′ = rw (c, c′, lt-ltb i count l, eq-eqb (pageAt i addresses) (pageAt at addresses) (sym p ∙ e ∙ p′))
+pub same-told : (addresses : List ℕ) (count i at : ℕ) {page page′ cell cell′ : ℕ} → i < count → page ≡ namedPage i addresses → page′ ≡ namedPage at addresses → page ≡ page′
+    → cell ≡ namedCell i addresses → cell′ ≡ namedCell at addresses → eqb cell cell′ ≡ sameCell addresses count i at
+same-told addresses count i at l p p′ e c c′ = rw (c, c′, lt-ltb i count l, eq-eqb (namedPage i addresses) (namedPage at addresses) (sym p ∙ e ∙ p′))
 
 pub same-first : (addresses : List ℕ) (count at : ℕ) → at < count → Same addresses count at at
 same-first addresses count at l = record { there = l; page = refl; cell = refl }
 
 -- the address of another column of it
 pub same-address : {addresses : List ℕ} {count i at : ℕ} → Same addresses count i at
-    → addressAt i addresses ≡ address (pageAt at addresses) (cellAt at addresses) (columnAt i addresses)
+    → addressAt i addresses ≡ address (namedPage at addresses) (namedCell at addresses) (namedColumn i addresses)
 same-address {addresses} {count} {i} {at} s = rw (s .page, s .cell)

@@ -1,0 +1,1 @@
+// The lists of a screenful, addresses and answers: definitions and laws alone. What fills them is `screen`.
