@@ -20,7 +20,7 @@ numbers : (c : tie.After-known-told) → let a = c .before .before .before .befo
 numbers c = numbers-kept _ (sym (c .before .before .before .numbers-of .ensures) ∙ c .before .numbers .given .1)
 
 lies : (c : tie.After-known-told) → c .before .numbers .given .0 .0 .length ≤ length (now (c .before .before .before .before .before .args .s))
-lies c = let a = c .before .before .before .before .before .args in numbered (a .reading) (a .kind) (now (a .s)) (numbers c) .within
+lies c = numbered _ _ _ (numbers c) .within
 
 numbers-of-requires : tie.Need-numbers-of-requires
 numbers-of-requires c κs = search needs

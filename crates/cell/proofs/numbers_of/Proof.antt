@@ -25,12 +25,14 @@ size : (c : tie.After-known-told) → let a = c .before .before .before .before 
     sizeIn (a .reading) (a .kind) (now (a .s)) ≡ vi.Value (c .before .size .given .0 .0)
 size c = sym (first (c .before .before .before) .1) ∙ c .before .size .given .1
 
-sized : (c : tie.After-known-told) → let k = c .before .before .before in
-    k .before .before .before .before .before .before .child-bytes .result + c .before .size .given .0 .0 .length ≤ length (now (k .before .before .before .before .before .before .before .before .args .s))
-sized c =
-    let k = c .before .before .before in
-    let a = k .before .before .before .before .before .before .before .before .args in
-    rw (k .before .before .before .before .before .before .child-bytes .ensures) (size-ends (a .reading) (a .kind) (now (a .s)) (first k .0) (size c))
+module _ (c : tie.After-known-told) where
+  abbrev k : tie.After-child-bytes
+  k = c .before .before .before .before .before .before .before .before .before
+
+  sized : k .child-bytes .result + c .before .size .given .0 .0 .length ≤ length (now (k .before .before .args .s))
+  sized =
+      let a = k .before .before .args in
+      omega (arith, k .child-bytes .ensures, size-ends (a .reading) (a .kind) (now (a .s)) (first (c .before .before .before) .0) (size c))
 
 short : (c : tie.After-known-told) → length (now (c .before .before .before .before .before .before .before .before .before .before .before .args .s)) < 2 ^ 64
 short c = omega arith

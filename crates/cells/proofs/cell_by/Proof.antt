@@ -20,12 +20,15 @@ cast-end : tie.Need-cast-end
 cast-end c = search needs
 
 -- where the pointer is not outside
-within : (c : tie.After-struct-known)
-    → let a = c .before .before .before .before .before .args in outside (a .opened .page .reading) (a .opened) (a .pointer) ≡ false
-within c = sym (c .before .before .before .is-outside .ensures) ∙ c .before .before .if1 .left
+module _ (c : tie.After-struct-known) where
+  abbrev k : tie.Start
+  k = c .before .before .before .before .before
 
-begins : (c : tie.After-struct-known) → let a = c .before .before .before .before .before .args in a .pointer ≤ a .opened .end
-begins c = let a = c .before .before .before .before .before .args in inside (a .opened .page .reading) (a .opened) (a .pointer) (within c)
+  within : outside (k .args .opened .page .reading) (k .args .opened) (k .args .pointer) ≡ false
+  within = sym (c .before .before .before .is-outside .ensures) ∙ c .before .before .if1 .left
+
+  begins : k .args .pointer ≤ k .args .opened .end
+  begins = inside (k .args .opened .page .reading) (k .args .opened) (k .args .pointer) within
 
 sub-cell-of : tie.Need-sub-cell-of
 sub-cell-of c = omega (arith, begins c)

@@ -14,10 +14,8 @@ lies-requires c κs = search needs
 bytes-of-requires : tie.Need-bytes-of-requires
 bytes-of-requires c κs = search needs
 
-fits : (c : tie.Then1) → Opened (c .before .before .before .args .opened) (now (c .before .before .before .args .db))
-fits c =
-    let a = c .before .before .before .args in
-    lies-opened (a .opened) (now (a .db)) (sym (c .before .lies .ensures) ∙ c .if1 .taken)
+fits : (c : tie.Then1) → let a = c .before .before .before .args in Opened (a .opened) (now (a .db))
+fits c = lies-opened _ _ (sym (c .before .lies .ensures) ∙ c .if1 .taken)
 
 located-in-requires : tie.Need-located-in-requires
 located-in-requires c κs = rw (c .bytes-of .ensures) (fitting _ _ (fits (c .before)))

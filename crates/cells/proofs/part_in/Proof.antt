@@ -51,9 +51,7 @@ bytes-of-requires : tie.Need-bytes-of-requires
 bytes-of-requires c κs = search needs
 
 fits : (c : tie.After-bytes-of) → Fitting (c .before .before .before .before .before .before .args .opened) (now (c .bytes-of .result))
-fits c =
-    let a = c .before .before .before .before .before .before .args in
-    rw (c .bytes-of .ensures) (fitting _ _ (lies-opened (a .opened) (now (a .db)) (lying (c .before .before .before))))
+fits c = rw (c .bytes-of .ensures) (fitting _ _ (lies-opened _ _ (lying (c .before .before .before))))
 
 pointer-at-requires : tie.Need-pointer-at-requires
 pointer-at-requires c κs = (fits c, c .before .if2 .left)
@@ -75,10 +73,11 @@ part-result-end-3 c = search needs
 
 returns-3 : tie.Need-returns-3
 returns-3 c =
-    let k = c .before .before .before .before in
-    let e = rw (k .bytes-of .ensures) at (c .before .before .before .pointer-at .ensures) in
+    let p = c .before .before .before in
+    let k = p .before in
+    let e = rw (k .bytes-of .ensures) at (p .pointer-at .ensures) in
     let a = k .before .before .before .before .before .before .args in
-    let z : a .opened .end - c .before .before .before .pointer-at .result ≡ 0 = omega (arith, c .before .if3 .taken) in
+    let z : a .opened .end - p .pointer-at .result ≡ 0 = omega (arith, c .before .if3 .taken) in
     rw (lying (k .before .before .before), lt-ltb _ _ (k .before .if2 .left), sym e, z)
 
 sub-result-4 : tie.Need-sub-result-4

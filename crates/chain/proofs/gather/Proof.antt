@@ -62,10 +62,8 @@ chained : (c : tie.After-links-of) → let a = c .before .before .before .before
     chainOf (c .links-of .result) (a .shape) (c .before .before .be-u32 .result) (now (a .db))
     ≡ chain (a .kind) (a .shape) (a .p) (now (a .s)) (now (a .db))
 chained c =
-    let a = c .before .before .before .before .before .before .before .before .before .before .args in
     let k = c .before .before .before .before .before .kept-of in
-    let t = tail (now (a .s)) (k .result) in
-    rw (c .links-of .ensures, c .before .less .ensures, c .before .before .be-u32 .ensures, t, k .ensures)
+    rw (c .links-of .ensures, c .before .less .ensures, c .before .before .be-u32 .ensures, tail _ _, k .ensures)
 
 is-whole-requires : tie.Need-is-whole-requires
 is-whole-requires c κs = search needs

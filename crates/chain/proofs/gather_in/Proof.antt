@@ -24,9 +24,7 @@ enum-known-shaped-2 c = search needs
 -- the shape of the file's pages
 shaped : (c : tie.After-shaped2) → let a = c .before .before .before .before .before .before .args in
     shapeOf file (now (a .db)) ≡ shown (c .shaped2 .given .0 .0)
-shaped c =
-    let a = c .before .before .before .before .before .before .args in
-    shape-answered (shapeOf file (now (a .db))) (sym (c .before .before .shape-of .ensures) ∙ c .shaped2 .given .1)
+shaped c = shape-answered _ (sym (c .before .before .shape-of .ensures) ∙ c .shaped2 .given .1)
 
 part-in-requires : tie.Need-part-in-requires
 part-in-requires c κs = search needs

@@ -1,6 +1,7 @@
 -- The sum is the number that the bytes spell; in the upper half of the patterns it is taken less all of them.
 use Prim.Native.Nat.{ℕ, _+_, _-_, _*_, _≤_, _<_}
 use mathlib.Core.Path.{_≡_, sym, ap, _∙_}
+use mathlib.Core.List.{List}
 use native.Mathlib.Omega.{arith}
 use lib.IntN.{ℤ, pos, negsuc, _-ℤ_}
 use denote.Ref.{now}
@@ -19,10 +20,12 @@ use Rattle.fields.proofs.be_i24.Tie as tie
 abbrev sum : tie.After-byte3 → ℕ
 sum c = c .before .before .byte .result * 65536 + c .before .byte2 .result * 256 + c .byte3 .result
 
-spelt : (c : tie.After-byte3) → sum c ≡ unsigned 3 (now (c .before .before .before .before .before .args .part))
+abbrev part : tie.After-byte3 → List ℕ
+part c = now (c .before .before .before .before .before .args .part)
+
+spelt : (c : tie.After-byte3) → sum c ≡ unsigned 3 (part c)
 spelt c =
-    let s = now (c .before .before .before .before .before .args .part) in
-    rw (c .before .before .byte .ensures .0, c .before .byte2 .ensures .0, c .byte3 .ensures .0) (sym (sum-of-three s (c .before .before .before .if1 .left)))
+    rw (c .before .before .byte .ensures .0, c .before .byte2 .ensures .0, c .byte3 .ensures .0) (sym (sum-of-three (part c) (c .before .before .before .if1 .left)))
 
 below : (c : tie.After-byte3) → sum c < 16777216
 below c = omega (arith, c .before .before .byte .ensures .1, c .before .byte2 .ensures .1, c .byte3 .ensures .1)

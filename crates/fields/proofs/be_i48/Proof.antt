@@ -1,6 +1,7 @@
 -- The sum is the number that the bytes spell; in the upper half of the patterns it is taken less all of them.
 use Prim.Native.Nat.{ℕ, _+_, _-_, _*_, _≤_, _<_}
 use mathlib.Core.Path.{_≡_, sym, ap, _∙_}
+use mathlib.Core.List.{List}
 use native.Mathlib.Omega.{arith}
 use lib.IntN.{ℤ, pos, negsuc, _-ℤ_}
 use denote.Ref.{now}
@@ -23,11 +24,13 @@ sum c =
     + c .before .byte5 .result * 256
     + c .byte6 .result
 
-spelt : (c : tie.After-byte6) → sum c ≡ unsigned 6 (now (c .before .before .before .before .before .before .before .before .args .part))
+abbrev part : tie.After-byte6 → List ℕ
+part c = now (c .before .before .before .before .before .before .before .before .args .part)
+
+spelt : (c : tie.After-byte6) → sum c ≡ unsigned 6 (part c)
 spelt c =
-    let s = now (c .before .before .before .before .before .before .before .before .args .part) in
     rw (c .before .before .before .before .before .byte .ensures .0, c .before .before .before .before .byte2 .ensures .0, c .before .before .before .byte3 .ensures .0, c .before .before .byte4 .ensures .0, c .before .byte5 .ensures .0, c .byte6 .ensures .0)
-    (sym (sum-of-six s (c .before .before .before .before .before .before .if1 .left)))
+    (sym (sum-of-six (part c) (c .before .before .before .before .before .before .if1 .left)))
 
 below : (c : tie.After-byte6) → sum c < 281474976710656
 below c =

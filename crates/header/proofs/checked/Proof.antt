@@ -26,9 +26,7 @@ opened : (c : tie.Else2) → Left 2 (now (c .before .before .before .before .arg
 opened c = limited (c .before .before) ∙ rw (← c .before .opens .ensures, c .if2 .left)
 
 whole : (c : tie.Else3) → Left 3 (now (c .before .before .before .before .before .args .db))
-whole c =
-    let db = now (c .before .before .before .before .before .args .db) in
-    opened (c .before) ∙ rw (le-ltb (length db) 100 (c .if3 .left))
+whole c = opened (c .before) ∙ rw (le-ltb _ 100 (c .if3 .left))
 
 encoded : (c : tie.Else5) → Left 4 (now (c .before .before .before .before .before .before .before .before .args .db))
 encoded c =

@@ -16,9 +16,7 @@ passed : (c : tie.After-enum-told)
 passed c = sym (c .before .before .checked .ensures) ∙ c .enum-told .given .1
 
 whole : (c : tie.After-enum-told) → 100 ≤ length (now (c .before .before .before .before .args .db))
-whole c =
-    let a = c .before .before .before .before .args in
-    passed-length (a .reading) (now (a .db)) (passed c)
+whole c = passed-length _ _ (passed c)
 
 checked-requires : tie.Need-checked-requires
 checked-requires c κs = search needs

@@ -22,10 +22,14 @@ over-requires : tie.Need-over-requires
 over-requires c κs = search needs
 
 -- the code's K
-even : (c : tie.After-over) → let a = c .before .before .before .before .args in
-    c .before .before .before .least-kept .result + c .over .result ≡ evenKept (a .usable) (a .p)
-even c =
-    rw (c .over .ensures, c .before .less2 .ensures, c .before .before .less .ensures, c .before .before .before .least-kept .ensures)
+module _ (c : tie.After-over) where
+  abbrev m : tie.After-least-kept
+  m = c .before .before .before
+
+  even : let a = m .before .args in m .least-kept .result + c .over .result ≡ evenKept (a .usable) (a .p)
+  even =
+      let e = m .least-kept .ensures in
+      omega (arith, e, rw (c .before .less2 .ensures, c .before .before .less .ensures, e) at (c .over .ensures))
 
 -- which is not more than the payload has, or M
 add-even : tie.Need-add-even

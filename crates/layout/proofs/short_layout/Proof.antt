@@ -59,10 +59,12 @@ loop-again c = let a = c .before .before .before .before .before .before .before
     let l = c .before .before .before .before .before .before .before .loop in
     let w = c .before .before .width .given in
     let serial = getD (now (a .t)) (l .at) 0 in
-    let u = subst (Wide serial (c .before .before .before .before .before .before .before .before .before .barred-of .result) (c .before .before .before .before .before .before .before .before .least-of .result)) (w .1) (c .before .before .before .before .width-of .ensures) in (
+    let least = c .before .before .before .before .before .before .before .before .least-of in
+    let barred = c .before .before .before .before .before .before .before .before .before .barred-of in
+    let u = subst (Wide serial (barred .result) (least .result)) (w .1) (c .before .before .before .before .width-of .ensures) in (
       omega arith,
       gone-on (a .guarded) (a .room) (now (a .t)) (l .at) (l .left) (w .0 .0) (c .before .before .before .before .before .before .loop-test .taken)
-          (rw (c .before .before .before .before .before .before .before .before .before .barred-of .ensures, c .before .before .before .before .before .before .before .before .least-of .ensures) at u) (c .if1 .left) (l .inv .1),
+          (rw (barred .ensures, least .ensures) at u) (c .if1 .left) (l .inv .1),
     )
 
 returns-3 : tie.Need-returns-3 Inv-loop μ-loop

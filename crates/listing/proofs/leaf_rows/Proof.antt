@@ -46,7 +46,8 @@ loop-less c = search needs
 
 loop-again : tie.Need-loop-again Inv-loop μ-loop
 loop-again c = let h = coming (c .before .before .before .before) in
-    let number = toZ-ofZ {w = w64} (record { sfits = c .before .before .before .number-in .ok }) ∙ c .before .before .before .number-in .ensures in
+    let r = c .before .before .before .number-in in
+    let number = toZ-ofZ {w = w64} (record { sfits = r .ok }) ∙ r .ensures in
     (omega arith, held-on (_ ∷ []) _ h refl (c .before .put .ensures ∙ rw number))
 
 same-length : tie.Need-same-length Inv-loop μ-loop

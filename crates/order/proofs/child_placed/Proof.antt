@@ -48,7 +48,8 @@ returns-3 c =
     let k = c .before .before .before .before .before .before .before .before in
     let a = k .before .before .args in
     let n = numbers-answered (numbersIn (a .opened) (a .i) (now (a .db))) (sym (k .numbers-in .ensures) ∙ c .before .before .before .before .before .before .answer2 .given .1) in
-    let x = toZ-ofZ {w = w64} (record { sfits = c .before .before .before .signed-of .ok }) ∙ c .before .before .before .signed-of .ensures in
+    let s = c .before .before .before .signed-of in
+    let x = toZ-ofZ {w = w64} (record { sfits = s .ok }) ∙ s .ensures in
     let f = rw (x, toZ-ofZ {w = w64} (k .before .before .fits .most)) at (c .before .before .fits2 .ensures) in
     rw (read (a .opened) (now (a .db)) (a .most) (a .i) (a .low) n, sym f ∙ c .before .if1 .left, c .out-of-order .ensures)
 

@@ -26,9 +26,10 @@ returns c =
     let k = c .before .before .before .before .before in
     let a = k .before .before .args in
     let m = toZ-ofZ {w = w64} (k .before .before .fits .most) in
-    let x = toZ-ofZ {w = w64} {z = c .before .before .before .answer2 .given .0 .0} (record { sfits = c .before .before .known-told2 .given .0 .1 }) in
+    let d = c .before .before .before .answer2 .given in
+    let x = toZ-ofZ {w = w64} {z = d .0 .0} (record { sfits = c .before .before .known-told2 .given .0 .1 }) in
     let f = rw (m, x) at (c .before .fits2 .ensures) in
-    ap ka.Shown x ∙ sym (key-fits (a .opened) (now (a .db)) (a .most) (a .i) (a .low) (sym (k .key-in .ensures) ∙ c .before .before .before .answer2 .given .1) (sym f ∙ c .if1 .taken))
+    ap ka.Shown x ∙ sym (key-fits (a .opened) (now (a .db)) (a .most) (a .i) (a .low) (sym (k .key-in .ensures) ∙ d .1) (sym f ∙ c .if1 .taken))
 
 out-of-order-requires : tie.Need-out-of-order-requires
 out-of-order-requires c κs = search needs
@@ -44,10 +45,11 @@ returns-3 c =
     let k = c .before .before .before .before .before .before in
     let a = k .before .before .args in
     let m = toZ-ofZ {w = w64} (k .before .before .fits .most) in
-    let x = toZ-ofZ {w = w64} {z = c .before .before .before .before .answer2 .given .0 .0} (record { sfits = c .before .before .before .known-told2 .given .0 .1 }) in
+    let d = c .before .before .before .before .answer2 .given in
+    let x = toZ-ofZ {w = w64} {z = d .0 .0} (record { sfits = c .before .before .before .known-told2 .given .0 .1 }) in
     let f = rw (m, x) at (c .before .before .fits2 .ensures) in
     ap ka.Refused (c .out-of-order .ensures)
-    ∙ sym (key-out (a .opened) (now (a .db)) (a .most) (a .i) (a .low) (sym (k .key-in .ensures) ∙ c .before .before .before .before .answer2 .given .1) (sym f ∙ c .before .if1 .left))
+    ∙ sym (key-out (a .opened) (now (a .db)) (a .most) (a .i) (a .low) (sym (k .key-in .ensures) ∙ d .1) (sym f ∙ c .before .if1 .left))
 
 pub key-placed-spec : {M : Type 1} → statement M
 key-placed-spec =

@@ -60,7 +60,7 @@ not-opened-requires-3 c κs = search needs
 
 -- the cells are counted in the page's bytes
 counted : (c : tie.After-be-u16)
-    → c .be-u16 .result ≡ cellsOf (c .before .before .before .before .before .before .before .before .before .before .before .before .args .site) (now (c .before .before .before .before .before .before .before .before .before .before .before .before .args .db))
+    → let a = c .before .before .before .before .before .before .before .before .before .before .before .before .args in c .be-u16 .result ≡ cellsOf (a .site) (now (a .db))
 counted c = rw (c .before .behind .ensures, c .before .before .before .bytes-of .ensures) at (c .be-u16 .ensures)
 
 returns-3 : tie.Need-returns-3

@@ -44,17 +44,18 @@ counted-of-requires : tie.Need-counted-of-requires
 counted-of-requires c κs = search needs
 
 -- where the header size was read
-abbrev Read : Type 0
-Read = tie.After-known-told
+module _ (c : tie.After-known-told) where
+  abbrev k : tie.Start
+  k = c .before .before .before .before .before .before
 
-found : (c : Read) → let a = c .before .before .before .before .before .before .args in varintOf (limit (a .reading)) (now (a .q)) ≡ vi.Value (c .before .header .given .0 .0)
-found c =
-    sym (ap (λ (l : ℕ). varintOf l (now (c .before .before .before .before .before .before .args .q))) (c .before .before .before .before .limit-of .ensures))
-    ∙ sym (c .before .before .before .read .ensures)
-    ∙ c .before .header .given .1
+  found : varintOf (limit (k .args .reading)) (now (k .args .q)) ≡ vi.Value (c .before .header .given .0 .0)
+  found =
+      sym (ap (λ (l : ℕ). varintOf l (now (k .args .q))) (c .before .before .before .before .limit-of .ensures))
+      ∙ sym (c .before .before .before .read .ensures)
+      ∙ c .before .header .given .1
 
-room : (c : Read) → c .before .header .given .0 .0 .length ≤ length (now (c .before .before .before .before .before .before .args .q))
-room c = length-bounds (now (c .before .before .before .before .before .before .args .q)) _ (found c) .2
+  room : c .before .header .given .0 .0 .length ≤ length (now (k .args .q))
+  room = length-bounds (now (k .args .q)) _ found .2
 
 sub-fit-of : tie.Need-sub-fit-of
 sub-fit-of c = omega (arith, room (c .before))
@@ -82,26 +83,25 @@ fits-is : (c : tie.After-fit-of) → let k = c .before .before .before in
 fits-is c = c .fit-of .ensures ∙ rw (tail _ _, c .before .before .counted-of .ensures)
 
 -- where all fits
-abbrev Fitting : Type 0
-Fitting = tie.After-struct-known
+module _ (c : tie.After-struct-known) where
+  abbrev o : tie.After-counted-of
+  o = c .before .before .before .before .before .before
 
-fits : (c : Fitting) → let k = c .before .before .before .before .before .before .before in
-    let a = k .before .before .before .before .before .before .args in
-    let h = k .before .header .given .0 .0 in
-    fitted (a .reading) (counted (a .reading) (h .length)) (h .value) (drop (h .length) (now (a .q)))
-    ≡ Fits (c .before .before .fitting .given .0 .0) (c .before .before .fitting .given .0 .1 .0)
-fits c = sym (fits-is (c .before .before .before .before)) ∙ c .before .before .fitting .given .1
+  fits : let a = k (o .before) .args in
+      let h = o .before .before .header .given .0 .0 in
+      fitted (a .reading) (counted (a .reading) (h .length)) (h .value) (drop (h .length) (now (a .q)))
+      ≡ Fits (c .before .before .fitting .given .0 .0) (c .before .before .fitting .given .0 .1 .0)
+  fits = sym (fits-is (c .before .before .before .before)) ∙ c .before .before .fitting .given .1
 
--- so does the header
-headed : (c : Fitting) → let k = c .before .before .before .before .before .before .before in
-    let h = k .before .header .given .0 .0 in
-    let own = c .before .before .before .before .before .before .counted-of .result in
-    (own ≤ h .value) × (h .length + (h .value - own) ≤ length (now (k .before .before .before .before .before .before .args .q)))
-headed c =
-    let k = c .before .before .before .before .before .before .before in
-    let o = fits-headed _ _ _ _ (fits c) in
-    let l = rw length-drop at (o .room) in
-    rw (c .before .before .before .before .before .before .counted-of .ensures) (o .low, omega (arith, room k, l))
+  -- so does the header
+  headed : let h = o .before .before .header .given .0 .0 in
+      let own = o .counted-of .result in
+      (own ≤ h .value) × (h .length + (h .value - own) ≤ length (now (k (o .before) .args .q)))
+  headed =
+      let i = fits-headed _ _ _ _ fits in
+      let l = rw length-drop at (i .room) in
+      let e = o .counted-of .ensures in
+      (omega (arith, e, i .low), omega (arith, e, l, room (o .before)))
 
 sub-t17 : tie.Need-sub-t17
 sub-t17 c = omega (arith, headed c)

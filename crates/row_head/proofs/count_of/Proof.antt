@@ -25,9 +25,10 @@ returns c =
 returns-2 : tie.Need-returns-2
 returns-2 c =
     let a = c .before .before .before .before .before .before .args in
-    let f = c .before .before .before .answer2 .given .0 .0 in
+    let d = c .before .before .before .answer2 .given in
+    let f = d .0 .0 in
     ap (co.Shown (f .cell .columns)) (c .shortest-in .ensures)
-    ∙ sym (ap (λ (x : FoundAnswer). countFor x (now (a .db))) (c .before .before .before .answer2 .given .1))
+    ∙ sym (ap (λ (x : FoundAnswer). countFor x (now (a .db))) (d .1))
 
 pub count-of-spec : {M : Type 1} → statement M
 count-of-spec =

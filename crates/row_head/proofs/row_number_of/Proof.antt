@@ -33,11 +33,12 @@ returns c =
 returns-2 : tie.Need-returns-2
 returns-2 c =
     let a = c .before .before .before .before .before .before .before .before .args in
-    let f = c .before .before .before .before .before .answer2 .given .0 .0 in
+    let d = c .before .before .before .before .before .answer2 .given in
+    let f = d .0 .0 in
     let n = toZ-ofZ {w = w64} (record { sfits = c .before .signed-of .ok }) ∙ c .before .signed-of .ensures in
     ap (λ (z : ℤ). ro.Shown z (c .shortest-in .result)) n
     ∙ ap (ro.Shown (rowNumber (f .cell .row .value))) (c .shortest-in .ensures)
-    ∙ sym (ap (λ (x : FoundAnswer). rowFor x (now (a .db))) (c .before .before .before .before .before .answer2 .given .1))
+    ∙ sym (ap (λ (x : FoundAnswer). rowFor x (now (a .db))) (d .1))
 
 pub row-number-of-spec : {M : Type 1} → statement M
 row-number-of-spec =

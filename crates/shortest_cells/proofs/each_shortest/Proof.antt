@@ -42,24 +42,22 @@ enum-known-v c = search needs
 
 -- where a type was read: it, and the room that it took
 module _ (c : tie.After-known-told Inv-loop μ-loop) where
-  found : let a = c .before .before .before .before .before .before .before .before .args in
-      varintOf (a .limit) (drop (c .before .before .before .before .before .before .loop .at) (now (a .types))) ≡ vi.Value (c .before .v .given .0 .0)
-  found =
-      let a = c .before .before .before .before .before .before .before .before .args in
-      read-at (a .limit) (now (a .types)) (c .before .before .before .before .before .before .loop .at) (c .before .before .before .read .ensures) (c .before .v .given .1)
+  abbrev l : tie.At-loop Inv-loop μ-loop
+  l = c .before .before .before .before .before .before
 
-  room : let n = c .before .v .given .0 .0 in let at = c .before .before .before .before .before .before .loop .at in
-      (1 ≤ n .length) × (at + n .length ≤ length (now (c .before .before .before .before .before .before .before .before .args .types)))
-  room =
-      let a = c .before .before .before .before .before .before .before .before .args in
-      room-at (a .limit) (now (a .types)) (c .before .before .before .before .before .before .loop .at) (search needs) found
+  abbrev k : tie.Start Inv-loop μ-loop
+  k = l .before .before
 
-  next : let a = c .before .before .before .before .before .before .before .before .args in let n = c .before .v .given .0 .0 in let at = c .before .before .before .before .before .before .loop .at in
-      (shortest n && eachShortest (typesOf (a .limit) (drop (at + n .length) (now (a .types))))) ≡ eachShortest (typesOf (a .limit) (now (a .types)))
-  next =
-      let a = c .before .before .before .before .before .before .before .before .args in
-      let h = c .before .before .before .before .before .before .loop in
-      sym (ap eachShortest (types-at (a .limit) (now (a .types)) (h .at) found)) ∙ h .inv .1
+  found : varintOf (k .args .limit) (drop (l .loop .at) (now (k .args .types))) ≡ vi.Value (c .before .v .given .0 .0)
+  found = read-at (k .args .limit) (now (k .args .types)) (l .loop .at) (c .before .before .before .read .ensures) (c .before .v .given .1)
+
+  room : let n = c .before .v .given .0 .0 in
+      (1 ≤ n .length) × (l .loop .at + n .length ≤ length (now (k .args .types)))
+  room = room-at (k .args .limit) (now (k .args .types)) (l .loop .at) (search needs) found
+
+  next : let n = c .before .v .given .0 .0 in
+      (shortest n && eachShortest (typesOf (k .args .limit) (drop (l .loop .at + n .length) (now (k .args .types))))) ≡ eachShortest (typesOf (k .args .limit) (now (k .args .types)))
+  next = sym (ap eachShortest (types-at (k .args .limit) (now (k .args .types)) (l .loop .at) found)) ∙ l .loop .inv .1
 
 enum-told : tie.Need-enum-told Inv-loop μ-loop
 enum-told c = search needs

@@ -26,8 +26,12 @@ returns c = rw (sym (c .before .before .lies .ensures) ∙ not-true _ (c .before
 lying : (c : tie.Else1) → let a = c .before .before .before .args in liesIn (length (now (a .db))) (a .opened) ≡ true
 lying c = sym (c .before .lies .ensures) ∙ not-false _ (c .if1 .left)
 
-fitting : (c : tie.Else2) → let a = c .before .before .before .before .before .args in ltb (a .room) (a .opened .cells) ≡ false
-fitting c = let a = c .before .before .before .before .before .args in le-ltb (a .room) (a .opened .cells) (c .if2 .left)
+module _ (c : tie.Else2) where
+  abbrev k : tie.Start
+  k = c .before .before .before .before .before
+
+  fitting : ltb (k .args .room) (k .args .opened .cells) ≡ false
+  fitting = le-ltb (k .args .room) (k .args .opened .cells) (c .if2 .left)
 
 no-page-requires-2 : tie.Need-no-page-requires-2
 no-page-requires-2 c κs = search needs

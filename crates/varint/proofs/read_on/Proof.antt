@@ -27,11 +27,12 @@ shared-slice-read-b : tie.Need-shared-slice-read-b Inv-loop μ-loop
 shared-slice-read-b c = search needs
 
 -- eight bytes of seven bits at most are read, and one more is a byte
-abbrev Read : Type 0
-Read = tie.After-shared-slice-known Inv-loop μ-loop
+module _ (c : tie.After-shared-slice-known Inv-loop μ-loop) where
+  abbrev l : tie.At-loop Inv-loop μ-loop
+  l = c .before .before .before
 
-small : (c : Read) → c .before .before .before .loop .value < 128 ^ 8
-small c = let h = c .before .before .before .loop in digits-within 128 (h .i) 8 (lit< tt) (h .inv .0) (h .inv .1)
+  small : l .loop .value < 128 ^ 8
+  small = digits-within 128 (l .loop .i) 8 (lit< tt) (l .loop .inv .0) (l .loop .inv .1)
 
 cast-b : tie.Need-cast-b Inv-loop μ-loop
 cast-b c = omega (arith, c .shared-slice-known .given (c .before .before .before .loop .i))

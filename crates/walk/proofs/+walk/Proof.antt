@@ -72,16 +72,18 @@ module _ (t : ℕ) where
   abbrev opened : lts.At-loop (called t) (at-depth t) walk.Post Inv μ → Open
   opened c = c .before .before .table3 .given .0 .0
 
+  abbrev start : lts.At-loop (called t) (at-depth t) walk.Post Inv μ → lts.Start (called t) (at-depth t) walk.Post Inv μ
+  start c = c .before .before .before .before .before .before
+
   abbrev here : lts.At-loop (called t) (at-depth t) walk.Post Inv μ → Walk State
-  here c = let a = c .before .before .before .before .before .before .args in
+  here c = let a = start c .args in
       childrenOf (walkOf (a .depth - 1) (now (a .db))) (opened c) (now (a .db)) (toZ w64 (ofZ w64 (a .most))) (opened c .cells - c .loop .i) (c .loop .i) (state (c .loop .visits) (c .loop .low))
 
   so : (c : lts.At-loop (called t) (at-depth t) walk.Post Inv μ) → {r : Walked} → counted (c .loop .n) (here c) ≡ r
-      → let a = c .before .before .before .before .before .before .args in r ≡ counted (a .count) (walkOf (a .depth) (now (a .db)) (a .page) (a .most) (a .state))
+      → let a = start c .args in r ≡ counted (a .count) (walkOf (a .depth) (now (a .db)) (a .page) (a .most) (a .state))
   so c e =
-      let a = c .before .before .before .before .before .before .args in
-      rw (toZ-ofZ {w = w64} (c .before .before .before .before .before .before .fits .most)) at (sym e ∙ c .loop .inv .1)
-      ∙ sym (ap (counted (a .count)) (interior (c .before) .is))
+      rw (toZ-ofZ {w = w64} (start c .fits .most)) at (sym e ∙ c .loop .inv .1)
+      ∙ sym (ap (counted (start c .args .count)) (interior (c .before) .is))
 
   -- the key of the cell, and its child
   key : (c : lts.After-known-told5 (called t) (at-depth t) walk.Post Inv μ) → let x = c .before .down2 .given .0 .1 .0 in toZ w64 (ofZ w64 x) ≡ x
