@@ -40,20 +40,21 @@ use Rattle.turns.specs.declared.types.Along.{Along}
 use Rattle.turns.specs.declared.types.Cell.{Cell}
 use Rattle.turns.specs.declared.types.Shown.{Shown}
 use Rattle.turns.specs.declared.types.LentValue.{LentValue}
-use Rattle.pages.specs.Pages.{numberOf, readingOf, pageOf, headerBy, pagesBy, listedBy, headBy, openingBy, openOf}
+use Rattle.asked.specs.Asked.{numberOf, readingBy, pageBy}
+use Rattle.pages.specs.Pages.{headerBy, pagesBy, listedBy, headBy, openingBy, openBy}
 use Rattle.turns.specs.Rows.{cursorOf, cellBy}
 use Rattle.turns.specs.Shown.{oldShown, fileShown}
 use Rattle.sources.specs.Lent.{lentShown}
-use Rattle.filled.specs.Run.{Run, runFrom}
+use Rattle.run.specs.Run.{Run, runFrom}
 use Rattle.gathered.specs.Rows.{lentIn}
 
 -- THE DATABASE AND ITS PAGES
 
 abbrev pub headerOf : ℕ → List ℕ → Header
-headerOf reading db = headerBy (header.headerOf (readingOf reading) db)
+headerOf reading db = headerBy (header.headerOf (readingBy reading) db)
 
 abbrev pub pagesOf : ℕ → List ℕ → Pages
-pagesOf reading db = pagesBy (shapeAnswer (shapeOf (readingOf reading) db))
+pagesOf reading db = pagesBy (shapeAnswer (shapeOf (readingBy reading) db))
 
 -- ALL ROWS OF A TABLE, by its root page
 
@@ -81,10 +82,10 @@ trustedOver places root db list = listIn (trustedOf places root db) root db list
 
 -- where a table of `room` entries is lent
 abbrev pub headOf : ℕ → ℕ → ℕ → List ℕ → PageHead
-headOf reading number room db = headBy (table.pageOf (pageOf reading number) room db)
+headOf reading number room db = headBy (table.pageOf (pageBy reading number) room db)
 
 abbrev pub pageOpened : ℕ → ℕ → List ℕ → OpenAnswer
-pageOpened reading number db = openAnswer (page.openOf (pageOf reading number) db)
+pageOpened reading number db = openAnswer (page.openOf (pageBy reading number) db)
 
 -- the entry of cell i, and a table in which the first n are filled
 abbrev pub entryOf : ℕ → ℕ → ℕ → List ℕ → Entry
@@ -99,11 +100,11 @@ entriesOver reading number db n ys = filled (pageOpened reading number db) db n 
 abbrev pub openingOf : ℕ → ℕ → List ℕ → Opening
 openingOf reading number db =
     pick (eqb reading 2) (openingBy reading (openAnswer (guarded.openOf number db)))
-    (openingBy (numberOf (readingOf reading)) (pageOpened reading number db))
+    (openingBy (numberOf (readingBy reading)) (pageOpened reading number db))
 
 -- cell i of it
 abbrev pub rowIn : Opened → ℕ → List ℕ → RowAnswer
-rowIn opened i db = usual.rowIn (eqb (opened .reading) 2) (openOf opened) i db
+rowIn opened i db = usual.rowIn (eqb (opened .reading) 2) (openBy opened) i db
 
 -- ONE CELL
 
@@ -147,4 +148,4 @@ guardedLentOf number i k room db = lentShown (marked.valueOf number i k room db)
 
 -- cell i of an opened page, in the page's reading
 abbrev pub cellLent : Opened → ℕ → ℕ → List ℕ → Answer Refusal Lent
-cellLent opened i room db = lentIn (eqb (opened .reading) 2) (openOf opened) i room db
+cellLent opened i room db = lentIn (eqb (opened .reading) 2) (openBy opened) i room db

@@ -11,15 +11,15 @@ ghost use Rattle.place.specs.Place.{filePage};
 ghost use Rattle.spilled.specs.Lent as lent;
 ghost use Rattle.marked.specs.Marked as marked;
 ghost use Rattle.halves.specs.Halves.{roomOf, within};
-ghost use Rattle.pages.specs.Pages.{shareOf, openOf};
-ghost use Rattle.filled.specs.Run.{filledBy, over};
+ghost use Rattle.asked.specs.Asked.{shareBy};
+ghost use Rattle.pages.specs.Pages.{openBy};
+ghost use Rattle.run.specs.Run.{filledBy, over};
 ghost use Rattle.filled.specs.Row.{rowBy, rowOver};
 ghost use Rattle.gathered.specs.Rows.{rowLent, tableLent, bufferLent};
 ghost use Rattle.chosen.specs.Chosen.{chosenBy};
 ghost use Rattle.addresses.specs.Screen.{screened, answersOver};
 ghost use Rattle.exports.specs.Calls.{headerOf, pagesOf, countedRows, listedRows, rowsOver, countedTrusted, listedTrusted, trustedOver, headOf, entryOf, entriesOver, openingOf, rowIn, oldCell, fileCell, guardedCell, oldRun, fileRun, oldShownOf, fileShownOf, guardedShownOf, fileLentOf, guardedLentOf, cellLent};
 use columns::Cursor;
-use filled::run;
 use halves::Share;
 use reading::Reading;
 use table::Entry;
@@ -46,7 +46,7 @@ use turns::types::Shown;
 pub extern "C" fn shorgavel_header(db: &[u8], reading: u8) -> Header
     ensures { λ r. ⌜ r ≡ headerOf reading (now (db .entry)) ⌝ }
 {
-    pages::header_by(header::header_of(db, pages::reading_of(reading)))
+    pages::header_by(header::header_of(db, asked::reading_of(reading)))
 }
 
 // How many pages there are, behind the header's checks.
@@ -54,7 +54,7 @@ pub extern "C" fn shorgavel_header(db: &[u8], reading: u8) -> Header
 pub extern "C" fn shorgavel_pages(db: &[u8], reading: u8) -> Pages
     ensures { λ r. ⌜ r ≡ pagesOf reading (now (db .entry)) ⌝ }
 {
-    pages::pages_by(shape::shape_of(db, pages::reading_of(reading)))
+    pages::pages_by(shape::shape_of(db, asked::reading_of(reading)))
 }
 
 // The head of a page, every cell of which is checked. No page has more cells than the room that is named here.
@@ -62,7 +62,7 @@ pub extern "C" fn shorgavel_pages(db: &[u8], reading: u8) -> Pages
 pub extern "C" fn shorgavel_page(db: &[u8], reading: u8, number: u32) -> PageHead
     ensures { λ r. ⌜ r ≡ headOf reading number 65536 (now (db .entry)) ⌝ }
 {
-    pages::head_by(table::check_page(db, pages::page_of(reading, number), 65_536))
+    pages::head_by(table::check_page(db, asked::page_of(reading, number), 65_536))
 }
 
 // The page call: the same, and the entries of the cells in the table that is lent. As many are written as the head counts,
@@ -90,10 +90,10 @@ pub extern "C" fn shorgavel_half_entries(
     half: u8,
     table: &mut [Entry],
 ) -> PageHead
-    ensures { λ r. ⌜ (r ≡ headOf reading number (roomOf (shareOf half) (length (now (table .entry)))) (now (db .entry)))
-        × (now (table .exit) ≡ within (shareOf half) (entriesOver reading number (now (db .entry)) (r .head .cells)) (now (table .entry))) ⌝ }
+    ensures { λ r. ⌜ (r ≡ headOf reading number (roomOf (shareBy half) (length (now (table .entry)))) (now (db .entry)))
+        × (now (table .exit) ≡ within (shareBy half) (entriesOver reading number (now (db .entry)) (r .head .cells)) (now (table .entry))) ⌝ }
 {
-    let share = pages::share_of(half);
+    let share = asked::share_of(half);
     entries_by(db, reading, number, share, table)
 }
 
@@ -102,7 +102,7 @@ fn entries_by(db: &[u8], reading: u8, number: u32, share: Share, table: &mut [En
     ensures { λ r. ⌜ (r ≡ headOf reading number (roomOf share (length (now (table .entry)))) (now (db .entry)))
         × (now (table .exit) ≡ within share (entriesOver reading number (now (db .entry)) (r .head .cells)) (now (table .entry))) ⌝ }
 {
-    let page = pages::page_of(reading, number);
+    let page = asked::page_of(reading, number);
     let answer = lent::page(db, page, share, table);
     pages::head_by(answer)
 }
@@ -112,7 +112,7 @@ fn entries_by(db: &[u8], reading: u8, number: u32, share: Share, table: &mut [En
 pub extern "C" fn shorgavel_entry(db: &[u8], reading: u8, number: u32, i: usize) -> Entry
     ensures { λ r. ⌜ r ≡ entryOf reading number i (now (db .entry)) ⌝ }
 {
-    table::entry_by(db, page::open_page(db, pages::page_of(reading, number)), i)
+    table::entry_by(db, page::open_page(db, asked::page_of(reading, number)), i)
 }
 
 // ALL ROWS OF A TABLE, by its root page, as the file reading walks along it
@@ -158,11 +158,11 @@ pub extern "C" fn shorgavel_trusted_rows(db: &[u8], root: u32, list: &mut [i64])
 pub extern "C" fn shorgavel_open(db: &[u8], reading: u8, number: u32) -> Opening
     ensures { λ r. ⌜ r ≡ openingOf reading number (now (db .entry)) ⌝ }
 {
-    if pages::is_guarded(reading) {
+    if asked::is_guarded(reading) {
         return pages::opening_by(reading, guarded::open_page(db, number));
     }
-    let answer = page::open_page(db, pages::page_of(reading, number));
-    pages::opening_by(pages::told(reading), answer)
+    let answer = page::open_page(db, asked::page_of(reading, number));
+    pages::opening_by(asked::told(reading), answer)
 }
 
 // A row with its values, as many as the table has places; the cursor goes on behind them. On a refusal the table is left as
@@ -172,8 +172,8 @@ pub extern "C" fn shorgavel_row_in(db: &[u8], opened: Opened, i: usize, table: &
     ensures { λ r. ⌜ (r ≡ rowBy (length (now (table .entry)) / 5) (now (db .entry)) (rowIn opened i (now (db .entry))))
         × (now (table .exit) ≡ rowOver (length (now (table .entry)) / 5) (now (db .entry)) (rowIn opened i (now (db .entry))) (now (table .entry))) ⌝ }
 {
-    let guarded = pages::is_guarded(opened.reading);
-    filled::row_in(db, pages::open_of(opened), guarded, i, table)
+    let guarded = asked::is_guarded(opened.reading);
+    filled::row_in(db, pages::open_by(opened), guarded, i, table)
 }
 
 // ONE CELL
@@ -308,8 +308,8 @@ pub extern "C" fn shorgavel_row_lent(
 ) -> LentRow
     ensures { λ r. ⌜ (r ≡ rowLent (length (now (table .entry)) / 5) (now (db .entry)) (cellLent opened i (length (now (buffer .entry))) (now (db .entry))))
         × (now (table .exit) ≡ tableLent (length (now (table .entry)) / 5) (now (db .entry)) (cellLent opened i (length (now (buffer .entry))) (now (db .entry))) (now (table .entry)))
-        × (now (buffer .exit) ≡ bufferLent (eqb (opened .reading) 2) (openOf opened) i (now (db .entry)) (now (buffer .entry))) ⌝ }
+        × (now (buffer .exit) ≡ bufferLent (eqb (opened .reading) 2) (openBy opened) i (now (db .entry)) (now (buffer .entry))) ⌝ }
 {
-    let guarded = pages::is_guarded(opened.reading);
-    gathered::row_in(db, pages::open_of(opened), guarded, i, table, buffer)
+    let guarded = asked::is_guarded(opened.reading);
+    gathered::row_in(db, pages::open_by(opened), guarded, i, table, buffer)
 }

@@ -20,10 +20,11 @@ use Rattle.checked.proofs.Laws.{Left, Next, none-left, byte-type, byte-width, l
 use Rattle.turns.specs.declared.types.Value.{Value}
 use Rattle.turns.specs.Rows.{filledOf}
 use Rattle.turns.specs.Words.{wordsOf, valueAt}
-use Rattle.filled.specs.Run.{runFrom, filledBy, over}
-use Rattle.filled.specs.Manners.{mannerOf, valueBy, movedTo}
-use Rattle.filled.proofs.Filling.{Held, one-more, all-stored, run-done, run-full}
-use Rattle.filled.proofs.Manners.{manner-shows}
+use Rattle.run.specs.Run.{runFrom, filledBy, over}
+use Rattle.manners.specs.Manners.{mannerOf, valueBy}
+use Rattle.filled.specs.Moved.{movedTo}
+use Rattle.run.proofs.Filling.{Held, one-more, all-stored, run-done, run-full}
+use Rattle.manners.proofs.Laws.{manner-shows}
 
 -- where the type is one byte
 module _ {r : Reading} {columns : ℕ} (db : List ℕ) (c : Cursor) (n : ℕ) (h : Left r columns db c n) (x : Next r columns db c n) (b : getD db (c .at) 0 < 128) where

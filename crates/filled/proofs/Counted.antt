@@ -12,9 +12,9 @@ use Rattle.reading.specs.declared.Reading.{Reading}
 use Rattle.columns.specs.declared.Cursor.{Cursor}
 use Rattle.columns.specs.Columns.{behind}
 use Rattle.turns.specs.Words.{wordsOf, valueAt}
-use Rattle.filled.specs.Run.{Run, run, before, runFrom, filledBy}
+use Rattle.run.specs.Run.{Run, run, before, runFrom, filledBy}
 use Rattle.checked.specs.Whole.{Whole}
-use Rattle.filled.proofs.Filling.{run-done, run-full, run-more}
+use Rattle.run.proofs.Filling.{run-done, run-full, run-more}
 use Rattle.checked.proofs.Laws.{Left, at-first, Next, next, none-left}
 
 abbrev countIn : Run → ℕ

@@ -1,6 +1,4 @@
-pub mod Filling
-pub mod Manners
+pub mod Stored
 pub mod Checked
-pub mod Places
 pub mod Found
 pub mod Counted

@@ -1,3 +1,2 @@
-pub mod Run
-pub mod Manners
+pub mod Moved
 pub mod Row

@@ -6,7 +6,7 @@ use Rattle.usual.specs.declared.RowAnswer.{RowAnswer}
 use Rattle.usual.specs.declared.RowAnswer.the-variants as ra
 use Rattle.turns.specs.declared.types.Row.{Row}
 use Rattle.turns.specs.Rows.{noRow, rowOf}
-use Rattle.filled.specs.Run.{runFrom, filledBy, over}
+use Rattle.run.specs.Run.{runFrom, filledBy, over}
 
 -- what is answered where a table of so many places is lent
 abbrev pub rowBy : ℕ → List ℕ → RowAnswer → Row

@@ -1,9 +1,6 @@
-// The values of a row, stored in a table that is lent: as many as it has places, from any cursor by the readers' own steps
-// (`run`), and of a row whose record was checked with nothing looked for twice (`row_in`, over `whole`). Both store the same,
-// word by word.
-pub mod run;
+// A row with its values in a table that is lent. Its record was checked when it was found, so nothing is looked for twice (`whole`); what
+// is stored is what `run` stores, word by word.
 mod whole;
-mod words;
 
 ghost use mathlib.Core.Path.{_≡_};
 ghost use Prim.Native.Nat.{_/_};

@@ -7,10 +7,10 @@ ghost use Rattle.serial.specs.Serial.{lengthOf, widthOf};
 ghost use Rattle.serial.specs.declared.Width.the-variants.{Bytes};
 ghost use Rattle.turns.specs.Shown.{integerOf};
 ghost use Rattle.turns.specs.Words.{wordsOf};
-ghost use Rattle.filled.specs.Run.{runFrom, filledBy, over};
+ghost use Rattle.run.specs.Run.{runFrom, filledBy, over};
 ghost use Rattle.checked.specs.Whole.{Whole, bytesIn};
-ghost use Rattle.filled.specs.Manners.{mannerOf, longFrom, valueBy, movedTo};
-use crate::words;
+ghost use Rattle.manners.specs.Manners.{longFrom, valueBy};
+ghost use Rattle.filled.specs.Moved.{movedTo};
 use checked::type_in;
 use checked::width_in;
 use columns::Cursor;
@@ -21,7 +21,8 @@ use fields::be_i32;
 use fields::be_i64;
 use fields::be_u64;
 use fields::load_i48;
-use reading::Reading;
+use manners::Manner;
+use manners::manner_of;
 use turns::rows::filled_of;
 use turns::shown::empty_value;
 use turns::shown::integer_of;
@@ -30,45 +31,12 @@ use turns::shown::real_of;
 use turns::types::Filled;
 use turns::types::Value;
 
-// How the readings differ in values: the widths of integers, what type 9 shows, and the first type that shows bytes.
-pub struct Manner {
-    pub i8: u8,
-    pub i16: u8,
-    pub i32: u8,
-    pub i64: u8,
-    pub one: i64,
-    pub least: u64,
-}
-
-fn manner_of(reading: Reading) -> Manner
-    ensures { λ r. ⌜ r ≡ mannerOf reading ⌝ }
-{
-    match reading {
-        Reading::Old => Manner {
-            i8: 8,
-            i16: 16,
-            i32: 32,
-            i64: 64,
-            one: 0,
-            least: 14,
-        },
-        Reading::File => Manner {
-            i8: 0,
-            i16: 0,
-            i32: 0,
-            i64: 0,
-            one: 1,
-            least: 12,
-        },
-    }
-}
-
 // Stores a value, and answers where it ends.
 fn put_at(table: &mut [i64], place: usize, value: Value, end: usize) -> usize
     requires { ⌜ place + 5 ≤ length (now table) ⌝ }
     ensures { λ r. ⌜ (r ≡ end) × (now (table .exit) ≡ sets (now (table .entry)) place (wordsOf value)) ⌝ }
 {
-    words::put(table, place, value);
+    words::put_value(&mut table[place..place + 5], value);
     end
 }
 
@@ -163,7 +131,8 @@ pub fn fill(db: &[u8], first: Cursor, columns: usize, table: &mut [i64]) -> Fill
             let stop = here.stop;
             let number = type_in(&db[type_at..stop]);
             let end = at + width_in(number.value) as usize;
-            words::put(table, 5 * n, words::value_at(db, reading, number.value, at));
+            let value = words::value_at(db, reading, number.value, at);
+            let end = put_at(table, 5 * n, value, end);
             here = moved(here, number.length, end);
         }
         n += 1;

@@ -19,7 +19,7 @@ use Rattle.turns.specs.Rows.{noRow, rowOf}
 use Rattle.sources.specs.Lent.{lentRow}
 use Rattle.spills.specs.declared.Source.{Source}
 use Rattle.spills.specs.declared.Source.the-variants.{Database, Buffer}
-use Rattle.filled.specs.Run.{Run, runFrom, filledBy, over}
+use Rattle.run.specs.Run.{Run, runFrom, filledBy, over}
 
 -- cell i of an opened page, in the guarded reading or in that of the page, with a buffer of so many bytes
 abbrev pub lentIn : Bool → Open → ℕ → ℕ → List ℕ → Answer Refusal Lent

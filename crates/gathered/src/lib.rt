@@ -7,7 +7,6 @@ ghost use Prim.Native.Nat.{_/_};
 ghost use lib.ListN.{length};
 ghost use Rattle.gathered.specs.Rows.{lentIn, rowFrom, tableFrom, rowLent, tableLent, bufferLent};
 use columns::Cursor;
-use filled::run;
 use page::Open;
 use row::FoundAnswer;
 use row::FoundCell;

@@ -51,10 +51,10 @@ use Rattle.row_head.specs.Head.{shortestBy}
 use Rattle.turns.specs.Rows.{cellBy}
 use Rattle.sources.specs.Lent.{lentShown}
 use Rattle.turns.specs.Words.{wordsOf, valueAt}
-use Rattle.filled.specs.Run.{runFrom}
+use Rattle.run.specs.Run.{runFrom}
 use Rattle.checked.proofs.Laws.{whole-found}
 use Rattle.filled.proofs.Counted.{whole-count}
-use Rattle.filled.proofs.Places.{fiveAt, wordsIn, place-holds, over-run}
+use Rattle.run.proofs.Places.{fiveAt, wordsIn, place-holds, over-run}
 use Rattle.gathered.specs.Rows.{lentIn, rowLent, tableLent}
 use Rattle.checked.proofs.Found.{in-place}
 use Rattle.gathered.proofs.Found.{spilled-whole}

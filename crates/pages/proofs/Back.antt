@@ -20,7 +20,8 @@ use Rattle.page.specs.Open.{openAnswer}
 use Rattle.turns.specs.declared.types.Opened.{Opened}
 use Rattle.turns.specs.declared.types.Opening.{Opening}
 use Rattle.turns.specs.Refusals.{accepted}
-use Rattle.pages.specs.Pages.{readingOf, kindBy, openedOf, openingBy, openOf}
+use Rattle.asked.specs.Asked.{readingBy, kindBy}
+use Rattle.pages.specs.Pages.{openedOf, openingBy, openBy}
 
 -- BY ITS NUMBERS AND BACK
 
@@ -30,7 +31,7 @@ kind-back InteriorTable = refl
 kind-back LeafIndex = refl
 kind-back LeafTable = refl
 
-open-back : (n : ℕ) (o : Open) → readingOf n ≡ o .page .reading → openOf (openedOf n o) ≡ o
+open-back : (n : ℕ) (o : Open) → readingBy n ≡ o .page .reading → openBy (openedOf n o) ≡ o
 open-back n o e = rw (e, kind-back (o .kind))
 
 -- no refusal has the number 0
@@ -76,15 +77,15 @@ refused-not (InCell page cell fault) e = fault-not page cell fault e
 
 -- the page behind an opening is the one that is handed back, in its reading
 pub record Behind (n : ℕ) (answer : Answer Refusal Open) (o : Opened) : Type 0 where
-  pub is : answer ≡ shown (openOf o)
+  pub is : answer ≡ shown (openBy o)
   pub reading : o .reading ≡ n
 
-pub page-behind : (n : ℕ) (answer : Answer Refusal Open) (o : Opened) → ((p : Open) → answer ≡ shown p → p .page .reading ≡ readingOf n)
+pub page-behind : (n : ℕ) (answer : Answer Refusal Open) (o : Opened) → ((p : Open) → answer ≡ shown p → p .page .reading ≡ readingBy n)
     → openingBy n (openAnswer answer) ≡ record { refused = accepted; opened = o } → Behind n answer o
 page-behind n (refused refusal) o reads e = absurd (refused-not refusal (ap (λ (x : Opening). x .refused .number) e))
 page-behind n (shown p) o reads e =
     let turned : openedOf n p ≡ o = ap (λ (x : Opening). x .opened) e in
     record {
-      is = ap shown (sym (open-back n p (sym (reads p refl)))) ∙ ap (λ (x : Opened). shown (openOf x)) turned;
+      is = ap shown (sym (open-back n p (sym (reads p refl)))) ∙ ap (λ (x : Opened). shown (openBy x)) turned;
       reading = ap (λ (x : Opened). x .reading) (sym turned);
     }

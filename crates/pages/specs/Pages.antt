@@ -1,20 +1,11 @@
--- The database and its pages as C has them: the header, the count of pages, the halves of a table, the head of a page, and a page that is
--- opened.
+-- The database and its pages as C has them: the header, the count of pages, the head of a page, and a page that is opened.
 use Prim.Native.Nat.{ℕ}
-use lib.Dec.{eqb}
-use Rattle.laws.specs.Pick.{pick}
-use Rattle.reading.specs.declared.Reading.{Reading}
-use Rattle.reading.specs.declared.Reading.the-variants.{Old as old, File as file}
 use Rattle.answers.specs.declared.Refusal.the-variants.{OfDatabase}
-use Rattle.halves.specs.declared.Share.{Share}
-use Rattle.halves.specs.declared.Share.the-variants.{First, Second}
 use Rattle.header.specs.declared.Header as hd
 use Rattle.header.specs.declared.HeaderAnswer.{HeaderAnswer}
 use Rattle.header.specs.declared.HeaderAnswer.the-variants as ha
-use Rattle.kinds.specs.declared.Kind.{Kind}
-use Rattle.kinds.specs.declared.Kind.the-variants.{InteriorIndex, InteriorTable, LeafIndex, LeafTable}
 use Rattle.kinds.specs.Kind.{kindByte}
-use Rattle.place.specs.declared.Page.{Page}
+use Rattle.asked.specs.Asked.{pageBy, kindBy}
 use Rattle.shape.specs.declared.ShapeAnswer.{ShapeAnswer}
 use Rattle.shape.specs.declared.ShapeAnswer.the-variants as sh
 use Rattle.page.specs.declared.Open.{Open}
@@ -32,24 +23,6 @@ use Rattle.turns.specs.declared.types.PageHead.{PageHead}
 use Rattle.turns.specs.declared.types.Opened.{Opened}
 use Rattle.turns.specs.declared.types.Opening.{Opening}
 use Rattle.turns.specs.Refusals.{accepted, refusedBy}
-
--- READINGS: 0 is old, any other number file
-
-abbrev pub numberOf : Reading → ℕ
-numberOf old = 0
-numberOf file = 1
-
-abbrev pub readingOf : ℕ → Reading
-readingOf number = pick (eqb number 0) old file
-
--- the page of that number, by the number of its reading
-abbrev pub pageOf : ℕ → ℕ → Page
-pageOf reading number = record { reading = readingOf reading; number = number }
-
--- HALVES OF A TABLE: 0 is the first, any other number the second
-
-abbrev pub shareOf : ℕ → Share
-shareOf half = pick (eqb half 0) First Second
 
 -- THE HEADER, AND HOW MANY PAGES
 
@@ -104,9 +77,6 @@ headBy (pa.Shown head) = record { refused = accepted; head = head }
 
 -- OPENED PAGES
 
-abbrev pub kindBy : ℕ → Kind
-kindBy byte = pick (eqb byte 2) InteriorIndex (pick (eqb byte 5) InteriorTable (pick (eqb byte 10) LeafIndex LeafTable))
-
 abbrev pub unopened : Opened
 unopened = record { reading = 0; kind = 0; end = 0; number = 0; at = 0; size = 0; from = 0; cells = 0 }
 
@@ -128,10 +98,11 @@ abbrev pub openingBy : ℕ → OpenAnswer → Opening
 openingBy reading (op.Refused refusal) = record { refused = refusedBy refusal; opened = unopened }
 openingBy reading (op.Shown o) = record { refused = accepted; opened = openedOf reading o }
 
-abbrev pub openOf : Opened → Open
-openOf o =
+-- and back
+abbrev pub openBy : Opened → Open
+openBy o =
     record {
-      page = pageOf (o .reading) (o .number);
+      page = pageBy (o .reading) (o .number);
       at = o .at;
       size = o .size;
       end = o .end;

@@ -1,12 +1,9 @@
-// The database and its pages by numbers: the header, the rows of a table, the halves of a lent table, the head of a page, and a page
-// that is opened, there and back.
+// What is answered of the database and its pages, by numbers: the header, the rows of a table, the head of a page, and a page that is
+// opened, there and back.
 ghost use mathlib.Core.Path.{_≡_};
-ghost use lib.Dec.{eqb};
-ghost use Rattle.pages.specs.Pages.{numberOf, readingOf, pageOf, shareOf, noFields, headerBy, pagesBy, listedBy, noHead, headBy, kindBy, unopened, openedOf, openingBy, openOf};
+ghost use Rattle.pages.specs.Pages.{noFields, headerBy, pagesBy, listedBy, noHead, headBy, unopened, openedOf, openingBy, openBy};
 use answers::Refusal;
-use halves::Share;
 use header::HeaderAnswer;
-use kinds::Kind;
 use page::Open;
 use page::OpenAnswer;
 use place::Page;
@@ -23,63 +20,6 @@ use turns::types::Opening;
 use turns::types::PageHead;
 use turns::types::Pages;
 use walk::CountAnswer;
-
-// READINGS
-
-fn number_of(reading: Reading) -> u8
-    ensures { λ r. ⌜ r ≡ numberOf reading ⌝ }
-{
-    match reading {
-        Reading::Old => 0,
-        Reading::File => 1,
-    }
-}
-
-// Whether a number names the guarded reading, where a page is opened.
-pub fn is_guarded(number: u8) -> bool
-    ensures { λ r. ⌜ r ≡ eqb number 2 ⌝ }
-{
-    number == 2
-}
-
-// Every number names a reading, so that no call has to refuse one.
-pub fn reading_of(number: u8) -> Reading
-    ensures { λ r. ⌜ r ≡ readingOf number ⌝ }
-{
-    if number == 0 {
-        return Reading::Old;
-    }
-    Reading::File
-}
-
-// The number that an opened page tells of its reading.
-pub fn told(number: u8) -> u8
-    ensures { λ r. ⌜ r ≡ numberOf (readingOf number) ⌝ }
-{
-    number_of(reading_of(number))
-}
-
-// A page by the number of its reading and its own.
-pub fn page_of(reading: u8, number: u32) -> Page
-    ensures { λ r. ⌜ r ≡ pageOf reading number ⌝ }
-{
-    Page {
-        reading: reading_of(reading),
-        number,
-    }
-}
-
-// HALVES OF A TABLE
-
-// Every number names a half, so that no call has to refuse one.
-pub fn share_of(half: u8) -> Share
-    ensures { λ r. ⌜ r ≡ shareOf half ⌝ }
-{
-    if half == 0 {
-        return Share::First;
-    }
-    Share::Second
-}
 
 // THE HEADER, AND HOW MANY PAGES
 
@@ -190,17 +130,6 @@ pub fn head_by(answer: PageAnswer) -> PageHead
 
 // OPENED PAGES
 
-fn kind_of(byte: u8) -> Kind
-    ensures { λ r. ⌜ r ≡ kindBy byte ⌝ }
-{
-    match byte {
-        2 => Kind::InteriorIndex,
-        5 => Kind::InteriorTable,
-        10 => Kind::LeafIndex,
-        _ => Kind::LeafTable,
-    }
-}
-
 // What stands in place of a page that is refused.
 fn no_page() -> Opened
     ensures { λ r. ⌜ r ≡ unopened ⌝ }
@@ -250,16 +179,21 @@ pub fn opening_by(reading: u8, answer: OpenAnswer) -> Opening
     }
 }
 
-pub fn open_of(opened: Opened) -> Open
-    ensures { λ r. ⌜ r ≡ openOf opened ⌝ }
+// And back.
+pub fn open_by(opened: Opened) -> Open
+    ensures { λ r. ⌜ r ≡ openBy opened ⌝ }
 {
+    let reading: Reading = asked::reading_of(opened.reading);
     Open {
-        page: page_of(opened.reading, opened.number),
+        page: Page {
+            reading,
+            number: opened.number,
+        },
         at: opened.at,
         size: opened.size,
         end: opened.end,
         from: opened.from,
-        kind: kind_of(opened.kind),
+        kind: asked::kind_of(opened.kind),
         cells: opened.cells,
     }
 }

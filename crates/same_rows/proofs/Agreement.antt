@@ -41,15 +41,16 @@ use Rattle.usual.proofs.Rows.{row-found}
 use Rattle.turns.specs.declared.types.Opened.{Opened}
 use Rattle.turns.specs.declared.types.Shown.{Shown}
 use Rattle.turns.specs.Refusals.{accepted}
-use Rattle.pages.specs.Pages.{readingOf, openingBy, openOf}
+use Rattle.asked.specs.Asked.{readingBy}
+use Rattle.pages.specs.Pages.{openingBy, openBy}
 use Rattle.turns.specs.declared.types.Cell.{Cell}
 use Rattle.turns.specs.Shown.{oldShown, fileShown}
 use Rattle.turns.specs.Words.{valueAt}
-use Rattle.filled.specs.Run.{runFrom}
+use Rattle.run.specs.Run.{runFrom}
 use Rattle.exports.specs.Calls.{openingOf, rowIn, cellFor}
 use Rattle.same_rows.specs.Agreement.{cellIn, shownOf, cellFrom, CellsAgree, RowShows, AsManyAsFit}
 use Rattle.filled.proofs.Counted.{whole-count}
-use Rattle.filled.proofs.Places.{wordsIn, place-holds, over-run}
+use Rattle.run.proofs.Places.{wordsIn, place-holds, over-run}
 use Rattle.checked.proofs.Laws.{whole-found}
 use Rattle.filled.proofs.Found.{found-whole}
 use Rattle.pages.proofs.Back.{Behind, page-behind}
@@ -70,12 +71,12 @@ record Located-by (reading number i : ℕ) (db : List ℕ) (o : Opened) : Type 0
   x : Answer Refusal Located
   row : rowIn o i db ≡ usual.rowBy (foundBy x)
   cell : cellIn reading number i db ≡ cellFor x
-  shows : (k : ℕ) → shownOf reading number i k db ≡ shownIn (readingOf (o .reading)) db (columnBy k x)
-  lies : (l : Located) → x ≡ shown l → locatedIn (openOf o) i db ≡ shown l
+  shows : (k : ℕ) → shownOf reading number i k db ≡ shownIn (readingBy (o .reading)) db (columnBy k x)
+  lies : (l : Located) → x ≡ shown l → locatedIn (openBy o) i db ≡ shown l
 
 module _ (i : ℕ) (db : List ℕ) (o : Opened) where
   -- a page that is handed back is that of the old or the file reading
-  again : (asked : Page) (n : ℕ) → readingOf n ≡ asked .reading
+  again : (asked : Page) (n : ℕ) → readingBy n ≡ asked .reading
       → openingBy n (openAnswer (page.openOf asked db)) ≡ record { refused = accepted; opened = o } → Behind n (page.openOf asked db) o
   again asked n names e = page-behind n (page.openOf asked db) o (λ p d. ap (λ (q : Page). q .reading) (open-page asked db d) ∙ sym names) e
 
@@ -86,15 +87,15 @@ module _ (i : ℕ) (db : List ℕ) (o : Opened) where
       page-behind 2 (guarded.openOf number db) o (λ p d. open-file number db (leaf-opened number db d .0)) e
 
   -- its cell, and the cell's columns
-  row-plain : {n : ℕ} → o .reading ≡ n → eqb n 2 ≡ false → rowIn o i db ≡ usual.rowBy (foundBy (locatedIn (openOf o) i db))
-  row-plain r f = ap (λ (g : Bool). usual.rowIn g (openOf o) i db) (ap (λ (m : ℕ). eqb m 2) r ∙ f) ∙ row-found false (openOf o) i db
+  row-plain : {n : ℕ} → o .reading ≡ n → eqb n 2 ≡ false → rowIn o i db ≡ usual.rowBy (foundBy (locatedIn (openBy o) i db))
+  row-plain r f = ap (λ (g : Bool). usual.rowIn g (openBy o) i db) (ap (λ (m : ℕ). eqb m 2) r ∙ f) ∙ row-found false (openBy o) i db
 
-  row-guarded : o .reading ≡ 2 → rowIn o i db ≡ usual.rowBy (foundBy (guarded.locatedIn (openOf o) i db))
-  row-guarded r = ap (λ (m : ℕ). usual.rowIn (eqb m 2) (openOf o) i db) r ∙ row-found true (openOf o) i db
+  row-guarded : o .reading ≡ 2 → rowIn o i db ≡ usual.rowBy (foundBy (guarded.locatedIn (openBy o) i db))
+  row-guarded r = ap (λ (m : ℕ). usual.rowIn (eqb m 2) (openBy o) i db) r ∙ row-found true (openBy o) i db
 
-  column-of : (n : ℕ) (r : Reading) (answer : ColumnAnswer) → o .reading ≡ n → readingOf n ≡ r
-      → shownIn r db answer ≡ shownIn (readingOf (o .reading)) db answer
-  column-of n r answer f g = ap (λ (q : Reading). shownIn q db answer) (sym (ap readingOf f ∙ g))
+  column-of : (n : ℕ) (r : Reading) (answer : ColumnAnswer) → o .reading ≡ n → readingBy n ≡ r
+      → shownIn r db answer ≡ shownIn (readingBy (o .reading)) db answer
+  column-of n r answer f g = ap (λ (q : Reading). shownIn q db answer) (sym (ap readingBy f ∙ g))
 
 located-by : (reading number i : ℕ) (db : List ℕ) (o : Opened) → openingOf reading number db ≡ record { refused = accepted; opened = o }
     → Located-by reading number i db o
@@ -105,7 +106,7 @@ located-by reading number i db o e = go (eqb reading 0) (eqb reading 2) refl ref
     go true false f g =
         let b = again i db o (oldPage number) 0 refl (rw (f, g) at e) in
         let s = located-open (oldPage number) i db (b .is) in
-        let here = locatedIn (openOf o) i db in
+        let here = locatedIn (openBy o) i db in
         record {
           x = here;
           row = row-plain i db o (b .reading) refl;
@@ -116,18 +117,18 @@ located-by reading number i db o e = go (eqb reading 0) (eqb reading 2) refl ref
     go false true f g =
         let b = again-guarded i db o number (rw (eqb-true reading 2 g) at e) in
         let s = guarded-open number i db (b .is) in
-        let here = guarded.locatedIn (openOf o) i db in
+        let here = guarded.locatedIn (openBy o) i db in
         record {
           x = here;
           row = row-guarded i db o (b .reading);
           cell = rw (f, g) (ap cellFor s);
           shows = λ k. rw (f, g) (ap fileShown (guarded-shown-located number i k db s) ∙ column-of i db o 2 file (columnBy k here) (b .reading) refl);
-          lies = λ l d. guarded-in (openOf o) i db d .located;
+          lies = λ l d. guarded-in (openBy o) i db d .located;
         }
     go false false f g =
         let b = again i db o (filePage number) 1 refl (rw (f, g) at e) in
         let s = located-open (filePage number) i db (b .is) in
-        let here = locatedIn (openOf o) i db in
+        let here = locatedIn (openBy o) i db in
         record {
           x = here;
           row = row-plain i db o (b .reading) refl;
@@ -169,14 +170,14 @@ along-cursor o i k db (shown l) {c = c} e lies f =
 pub row-shows : RowShows
 row-shows reading number i places db table o n columns c e d k l room =
     let b = located-by reading number i db o e in
-    let h = whole-found c columns db (found-whole (openOf o) i db (eqb (o .reading) 2) d) k l in
-    let s = along-cursor (openOf o) i k db (b .x) (sym (b .row) ∙ d) (b .lies) (h .is) in
+    let h = whole-found c columns db (found-whole (openBy o) i db (eqb (o .reading) 2) d) k l in
+    let s = along-cursor (openBy o) i k db (b .x) (sym (b .row) ∙ d) (b .lies) (h .is) in
     let v : shownOf reading number i k db ≡ record { refused = accepted; value = valueAt (c .reading) (h .t) (h .at) db } =
-    b .shows k ∙ ap (shownIn (readingOf (o .reading)) db) (s .0)
+    b .shows k ∙ ap (shownIn (readingBy (o .reading)) db) (s .0)
     ∙ ap (λ (r : Reading). shownIn r db (cl.Shown (h .t) (h .at))) (sym (s .1)) ∙ shown-value (c .reading) db (h .t) (h .at) in
     rw (v, d, over-run (runFrom places c db) table) (refl, place-holds k places c db (drop (length (wordsIn (runFrom places c db))) table) room (h .is))
 
 -- HOW MANY
 
 pub as-many-as-fit : AsManyAsFit
-as-many-as-fit i places db o n columns c d = rw d (whole-count places c columns db (found-whole (openOf o) i db (eqb (o .reading) 2) d))
+as-many-as-fit i places db o n columns c d = rw d (whole-count places c columns db (found-whole (openBy o) i db (eqb (o .reading) 2) d))

@@ -5,11 +5,9 @@ use mathlib.Core.List.{List}
 use native.Mathlib.Numerals.{add-one}
 use native.Mathlib.Omega.{arith}
 use lib.ListN.{length, take, drop, length-take, length-drop}
-use Rattle.laws.proofs.Parts.{tail}
 use Rattle.varint.specs.declared.Number.{Number}
 use Rattle.varint.proofs.Laws.{length-bounds}
 use Rattle.reading.specs.declared.Reading.{Reading}
-use Rattle.reading.specs.declared.Reading.the-variants.{Old as old, File as file}
 use Rattle.reading.specs.Reading.{limit}
 use Rattle.serial.specs.Serial.{widthOf}
 use Rattle.columns.specs.declared.Cursor.{Cursor}
@@ -29,7 +27,7 @@ use Rattle.turns.specs.declared.types.Shown.{Shown}
 use Rattle.turns.specs.Refusals.{accepted}
 use Rattle.turns.specs.Words.{valueAt}
 use Rattle.chosen.specs.Chosen.{slotShown}
-use Rattle.screen.specs.Coming.{Coming, typeAt, valueOfPart}
+use Rattle.screen.specs.Coming.{Coming, typeAt}
 
 -- the cursor behind n columns, of a row that has so many
 pub record Before (first : Cursor) (columns : ℕ) (db : List ℕ) (here : Cursor) (n : ℕ) : Type 0 where
@@ -90,13 +88,8 @@ past-before {first} {columns} {db} w (suc k) l =
     subst (λ (n : ℕ). Before first columns db (pastOf n first db) n) (add-one k)
     (record { is = refl; left = subst (λ (h : Cursor). Left (first .reading) columns db h (k + 1)) (sym there) (x .left) })
 
--- A VALUE, by the part in which it begins
-pub value-part : (r : Reading) (t at : ℕ) (db : List ℕ) → valueOfPart r t at (take (length db - at) (drop at db)) ≡ valueAt r t at db
-value-part old t at db = rw (tail db at)
-value-part file t at db = rw (tail db at)
-
--- as it is shown
+-- a value, as it is shown
 pub shown-found : (r : Reading) (number : ℕ) (db : List ℕ) {slot : Slot} {t at : ℕ} {refused : Refused} {value : Value} → slot ≡ Found t at
-    → refused ≡ accepted → value ≡ valueOfPart r t at (take (length db - at) (drop at db))
+    → refused ≡ accepted → value ≡ valueAt r t at db
     → _≡_ {A = Shown} (record { refused = refused; value = value }) (slotShown r number db slot)
-shown-found r number db {slot} {t} {at} s a v = rw (s, a, v ∙ value-part r t at db)
+shown-found r number db {slot} {t} {at} s a v = rw (s, a, v)

@@ -33,17 +33,28 @@ found-checked false o i db e =
     let t = told (cells.locatedIn o i db) e in
     subst (λ (f : FoundCell). Whole (f .cursor) (f .cell .columns) db) (t .same) (in-place o i db (t .is))
 
--- what the cells of a page are answered is what one of them is
-pub found-asked : (r : Reading) (g : Bool) (o : Open) (db addresses : List ℕ) (at i : ℕ) {cell : ℕ} {x : FoundAnswer} → namedPage i addresses ≡ namedPage at addresses
-    → cell ≡ namedCell i addresses → foundBy (locatedIn g o cell db) ≡ x → (f : Address → Shown)
-    → PageAnswers (namedPage at addresses) (λ j. foundShown r (namedPage at addresses) db (foundBy (locatedIn g o j db))) f
-    → CellAnswers (namedPage i addresses) (namedCell i addresses) (foundShown r (namedPage i addresses) db x) f
-found-asked r g o db addresses at i {cell} {x} p q e f must k =
-    ap (λ (n : ℕ). f (address n (namedCell i addresses) k)) p
-    ∙ must (namedCell i addresses) k
-    ∙ ap (λ (n : ℕ). foundShown r n db (foundBy (locatedIn g o (namedCell i addresses) db)) k) (sym p)
-    ∙ ap (λ (j : ℕ). foundShown r (namedPage i addresses) db (foundBy (locatedIn g o j db)) k) (sym q)
-    ∙ ap (λ (z : FoundAnswer). foundShown r (namedPage i addresses) db z k) e
+module _ (r : Reading) (g : Bool) (o : Open) (db addresses : List ℕ) where
+  -- what a cell is answered, by what was found of it
+  abbrev pub cellShown : ℕ → ℕ → ℕ → Shown
+  cellShown i j k = foundShown r (namedPage i addresses) db (foundBy (locatedIn g o j db)) k
+
+  -- what was found is known by another name
+  pub cell-asked : (i : ℕ) {cell : ℕ} {x : FoundAnswer} → cell ≡ namedCell i addresses → foundBy (locatedIn g o cell db) ≡ x → (f : Address → Shown)
+      → CellAnswers (namedPage i addresses) (namedCell i addresses) (cellShown i (namedCell i addresses)) f
+      → CellAnswers (namedPage i addresses) (namedCell i addresses) (foundShown r (namedPage i addresses) db x) f
+  cell-asked i q e f must k =
+      must k
+      ∙ ap (λ (j : ℕ). cellShown i j k) (sym q)
+      ∙ ap (λ (z : FoundAnswer). foundShown r (namedPage i addresses) db z k) e
+
+  -- what the cells of a page are answered is what one of them is
+  pub page-asked : (at i : ℕ) → namedPage i addresses ≡ namedPage at addresses → (f : Address → Shown)
+      → PageAnswers (namedPage at addresses) (cellShown at) f
+      → CellAnswers (namedPage i addresses) (namedCell i addresses) (cellShown i (namedCell i addresses)) f
+  page-asked at i p f must k =
+      ap (λ (n : ℕ). f (address n (namedCell i addresses) k)) p
+      ∙ must (namedCell i addresses) k
+      ∙ ap (λ (n : ℕ). foundShown r n db (foundBy (locatedIn g o (namedCell i addresses) db)) k) (sym p)
 
 -- BY THE PAGE: what the single call answers, where the page is refused and where it is opened
 

@@ -6,20 +6,9 @@ use lib.ListN.{length, take, drop}
 use Rattle.varint.specs.declared.Number.{Number}
 use Rattle.varint.specs.declared.Varint.the-variants as vi
 use Rattle.varint.specs.Varint.{varintOf}
-use Rattle.reading.specs.declared.Reading.{Reading}
-use Rattle.reading.specs.declared.Reading.the-variants.{Old as old, File as file}
 use Rattle.reading.specs.Reading.{limit}
-use Rattle.values.specs.Old as ov
-use Rattle.values.specs.File as fv
 use Rattle.columns.specs.declared.Cursor.{Cursor}
 use Rattle.checked.specs.Whole.{numberBy}
-use Rattle.turns.specs.declared.types.Value.{Value}
-use Rattle.turns.specs.Shown.{oldValue, fileValue}
-
--- the value of a type whose bytes begin the part, which stands at `at`
-abbrev pub valueOfPart : Reading → ℕ → ℕ → List ℕ → Value
-valueOfPart old t at part = oldValue (ov.valueOf t at part)
-valueOfPart file t at part = fileValue (fv.valueOf t at part)
 
 -- the type at a cursor
 abbrev pub typeAt : Cursor → List ℕ → Number

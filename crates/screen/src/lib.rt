@@ -3,8 +3,8 @@
 // The addresses of one screen lie on few pages and in few rows. A page stays open while the next address names it, and a row
 // stays found while the next address names its cell, so that header, page and record are checked once for all of them. An
 // address that is refused stops no other.
+mod lists;
 mod rows;
-mod words;
 
 ghost use mathlib.Core.Path.{_≡_};
 ghost use Prim.Native.Nat.{_<_};
@@ -12,13 +12,13 @@ ghost use lib.ListN.{length};
 ghost use Rattle.chosen.specs.Chosen.{foundShown, locatedIn};
 ghost use Rattle.row.specs.Found.{foundBy};
 ghost use Rattle.addresses.specs.Screen.{screened, answersOver};
-ghost use Rattle.addresses.specs.Turns.{Room, namedPage, Turn, PageAnswers, Single};
+ghost use Rattle.addresses.specs.Turns.{Room, namedPage, namedCell, Turn, CellAnswers, PageAnswers, Single};
+use crate::lists::cell_at;
+use crate::lists::count_of;
+use crate::lists::page_at;
+use crate::lists::places_of;
 use crate::rows::in_row;
 use crate::rows::refused_in;
-use crate::words::cell_at;
-use crate::words::count_of;
-use crate::words::page_at;
-use crate::words::places_of;
 use answers::Reason;
 use answers::Refusal;
 use chosen::Chosen;
@@ -29,6 +29,42 @@ use row::FoundAnswer;
 use turns::refusals::no_refusal;
 use turns::refusals::refused_by;
 use turns::types::Screened;
+
+// Answers the addresses from `at` on that name one cell of a page that is opened, and answers where they end.
+fn in_cell(
+    db: &[u8],
+    reading: Reading,
+    guarded: bool,
+    opened: Open,
+    at: usize,
+    count: usize,
+    addresses: &[u64],
+    answers: &mut [i64],
+) -> usize
+    requires { ⌜ Room count (now addresses) (now answers) × (at < count) ⌝ }
+    ensures { λ r. ⌜ Turn (CellAnswers (namedPage at (now (addresses .entry))) (namedCell at (now (addresses .entry)))
+        (foundShown reading (namedPage at (now (addresses .entry))) (now (db .entry)) (foundBy (locatedIn guarded opened (namedCell at (now (addresses .entry))) (now (db .entry))))))
+        count (now (addresses .entry)) at r (now (answers .entry)) (now (answers .exit)) ⌝ }
+{
+    let found = chosen::found_in(db, guarded, opened, cell_at(addresses, at));
+    match found {
+        FoundAnswer::Refused(refusal) => refused_in(refusal, at, count, addresses, answers),
+        FoundAnswer::Shown(row) => {
+            let cell: cell::Cell = row.cell;
+            let first = row.cursor;
+            in_row(
+                db,
+                reading,
+                first,
+                cell.columns,
+                at,
+                count,
+                addresses,
+                answers,
+            )
+        }
+    }
+}
 
 // Answers the addresses from `at` on that name one page, which is opened, and answers where they end.
 fn on_open(
@@ -49,26 +85,7 @@ fn on_open(
     let page = page_at(addresses, at);
     let mut i = at;
     loop {
-        let found = chosen::found_in(db, guarded, opened, cell_at(addresses, i));
-        match found {
-            FoundAnswer::Refused(refusal) => {
-                i = refused_in(refusal, i, count, addresses, answers);
-            }
-            FoundAnswer::Shown(row) => {
-                let cell: cell::Cell = row.cell;
-                let first = row.cursor;
-                i = in_row(
-                    db,
-                    reading,
-                    first,
-                    cell.columns,
-                    i,
-                    count,
-                    addresses,
-                    answers,
-                );
-            }
-        }
+        i = in_cell(db, reading, guarded, opened, i, count, addresses, answers);
         if count <= i {
             return i;
         }

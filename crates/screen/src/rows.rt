@@ -6,13 +6,17 @@ ghost use Rattle.serial.specs.Serial.{widthOf};
 ghost use Rattle.columns.specs.Columns.{slotOf, behind};
 ghost use Rattle.checked.specs.Whole.{Whole, bytesIn};
 ghost use Rattle.checked.specs.Past.{pastOf};
+ghost use Rattle.answers.specs.declared.Reason.the-variants.{NoSuchColumn};
+ghost use Rattle.answers.specs.declared.Refusal.the-variants.{OnPage};
+ghost use Rattle.turns.specs.Refusals.{accepted};
+ghost use Rattle.turns.specs.Words.{valueAt};
 ghost use Rattle.chosen.specs.Chosen.{refusedShown, slotShown};
 ghost use Rattle.addresses.specs.Turns.{Room, namedPage, namedCell, sameCell, Turn, CellAnswers};
-ghost use Rattle.screen.specs.Coming.{Coming, typeAt, valueOfPart};
-use crate::words::cell_at;
-use crate::words::column_at;
-use crate::words::page_at;
-use crate::words::put;
+ghost use Rattle.screen.specs.Coming.{Coming, typeAt};
+use crate::lists::cell_at;
+use crate::lists::column_at;
+use crate::lists::page_at;
+use crate::lists::put;
 use answers::Reason;
 use answers::Refusal;
 use checked::type_in;
@@ -22,10 +26,7 @@ use reading::Reading;
 use turns::refusals::no_refusal;
 use turns::refusals::refused_by;
 use turns::shown::empty_value;
-use turns::shown::file_value;
-use turns::shown::old_value;
 use turns::types::Shown;
-use turns::types::Value;
 use varint::Number;
 
 // Whether there is an address `i`, and it names the cell that `at` names.
@@ -51,6 +52,26 @@ fn refused_shown(refusal: Refusal) -> Shown
     }
 }
 
+// What is shown of a column that a row does not have.
+fn none_shown(page: u32) -> Shown
+    ensures { λ r. ⌜ r ≡ refusedShown (OnPage page NoSuchColumn) ⌝ }
+{
+    refused_shown(Refusal::OnPage {
+        page,
+        reason: Reason::NoSuchColumn,
+    })
+}
+
+// And of one that it has.
+fn value_shown(db: &[u8], reading: Reading, serial: u64, at: usize) -> Shown
+    ensures { λ r. ⌜ (r .refused ≡ accepted) × (r .value ≡ valueAt reading serial at (now (db .entry))) ⌝ }
+{
+    Shown {
+        refused: no_refusal(),
+        value: words::value_at(db, reading, serial, at),
+    }
+}
+
 // Answers the addresses from `at` on that name one cell, which is refused, and answers where they end.
 pub fn refused_in(
     refusal: Refusal,
@@ -66,7 +87,7 @@ pub fn refused_in(
     let shown = refused_shown(refusal);
     let mut i = at;
     loop {
-        put(answers, 8 * i, shown);
+        put(answers, i, shown);
         i += 1;
         if !names_same(addresses, count, i, at) {
             return i;
@@ -120,16 +141,6 @@ fn past(db: &[u8], first: Cursor, columns: usize, k: usize) -> Cursor
     here
 }
 
-// The value of a type whose bytes begin the part, which stands at `at`.
-fn value_of(part: &[u8], reading: Reading, serial: u64, at: usize) -> Value
-    ensures { λ r. ⌜ r ≡ valueOfPart reading serial at (now (part .entry)) ⌝ }
-{
-    match reading {
-        Reading::Old => old_value(values::old::value_of(serial, part, at)),
-        Reading::File => file_value(values::file::value_of(serial, part, at)),
-    }
-}
-
 // Answers the addresses from `at` on that name one cell, a row that was checked, and answers where they end. The cursor stays
 // behind the column that was shown last: as long as columns follow one another, none is gone along twice.
 pub fn in_row(
@@ -157,24 +168,13 @@ pub fn in_row(
                 here = past(db, first, columns, k);
             }
             let serial = type_at(db, here);
-            let start = here.value;
-            let value = value_of(&db[start..], reading, serial.value, start);
-            put(
-                answers,
-                8 * i,
-                Shown {
-                    refused: no_refusal(),
-                    value,
-                },
-            );
+            let shown = value_shown(db, reading, serial.value, here.value);
+            put(answers, i, shown);
             here = moved(here, serial);
             column = k + 1;
         } else {
-            let refusal = Refusal::OnPage {
-                page: page_at(addresses, at),
-                reason: Reason::NoSuchColumn,
-            };
-            put(answers, 8 * i, refused_shown(refusal));
+            let shown = none_shown(page_at(addresses, at));
+            put(answers, i, shown);
         }
         i += 1;
         if !names_same(addresses, count, i, at) {

@@ -49,7 +49,8 @@ use Rattle.halves.specs.declared.Share.{Share}
 use Rattle.halves.specs.Halves.{within}
 use Rattle.lent.specs.Call.{answerOf, leftOf}
 use Rattle.turns.specs.declared.types.PageHead.{PageHead}
-use Rattle.pages.specs.Pages.{pageOf, headBy}
+use Rattle.asked.specs.Asked.{pageBy}
+use Rattle.pages.specs.Pages.{headBy}
 use Rattle.exports.specs.Calls.{pageOpened}
 use Rattle.table.proofs.Entry as T
 use Rattle.halves.proofs.Share as S
@@ -60,10 +61,10 @@ use Rattle.table.proofs.PageAnswer as B
 use Rattle.table.proofs.PageAnswer.Laws as B′
 use Rattle.turns.proofs.types.PageHead as D
 use Rattle.turns.proofs.types.PageHead.Laws as D′
-use Rattle.pages.proofs.page_of as page-of
-use Rattle.pages.proofs.page_of.Symbol as page-of-def
-use Rattle.pages.proofs.page_of.Symbol.{name as #page-of}
-use Rattle.pages.proofs.page_of.Met as page-of-thm
+use Rattle.asked.proofs.page_of as page-of
+use Rattle.asked.proofs.page_of.Symbol as page-of-def
+use Rattle.asked.proofs.page_of.Symbol.{name as #page-of}
+use Rattle.asked.proofs.page_of.Met as page-of-thm
 use Rattle.lent.proofs.page as page
 use Rattle.lent.proofs.page.Symbol as page-def
 use Rattle.lent.proofs.page.Symbol.{name as #lent·page}
@@ -118,7 +119,7 @@ module _ {M : Type 1} (𝓤 : URA M) (H : Heap 𝓤) (A : Atoms 𝓤) (W : Given
 
   -- the page, the page call's answer, that answer turned, and the table behind the call
   abbrev asked : Page
-  asked = pageOf reading number
+  asked = pageBy reading number
 
   abbrev opening : OpenAnswer
   opening = pageOpened reading number (d .now)
@@ -247,6 +248,6 @@ entries-by-spec 𝓤 H 𝓜 𝓖 𝓡 =
     entered 𝓤 H (tripleOf 𝓤 H (𝓖 .A) f.signature (f.spec 𝓤 H (𝓖 .A) (𝓜 .mem) (𝓡 .run)))
     (tables 𝓤 H 𝓜 𝓡 code.env .C) (tables 𝓤 H 𝓜 𝓡 code.env .Λ) #entries code.function (code.unfolded 𝓤 H 𝓜 𝓡)
     (entries-meets 𝓤 H (𝓖 .A) (givenOf 𝓤 H 𝓜 𝓖) (𝓜 .mem) (𝓡 .run) (tablesOf 𝓤 H 𝓜 (tables 𝓤 H 𝓜 𝓡 code.env))
-    (cited 𝓤 H (PageOf 𝓤 H (𝓖 .A) (𝓜 .mem) (𝓡 .run)) 𝓜 𝓡 code.env #page-of page-of-def.routine code.calls-pages·page-of (page-of-thm.met 𝓤 H 𝓜 𝓖 𝓡))
+    (cited 𝓤 H (PageOf 𝓤 H (𝓖 .A) (𝓜 .mem) (𝓡 .run)) 𝓜 𝓡 code.env #page-of page-of-def.routine code.calls-asked·page-of (page-of-thm.met 𝓤 H 𝓜 𝓖 𝓡))
     (cited 𝓤 H (PageCall 𝓤 H (𝓖 .A) (𝓜 .mem) (𝓡 .run)) 𝓜 𝓡 code.env #lent·page page-def.routine code.calls-lent·page (page-thm.met 𝓤 H 𝓜 𝓖 𝓡))
     (cited 𝓤 H (HeadBy 𝓤 H (𝓖 .A) (𝓜 .mem) (𝓡 .run)) 𝓜 𝓡 code.env #head-by head-by-def.routine code.calls-pages·head-by (head-by-thm.met 𝓤 H 𝓜 𝓖 𝓡)))

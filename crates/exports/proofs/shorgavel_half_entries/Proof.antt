@@ -42,17 +42,17 @@ use Rattle.table.specs.declared.Entry.{Entry}
 use Rattle.halves.specs.declared.Share.{Share}
 use Rattle.halves.specs.Halves.{roomOf, within}
 use Rattle.turns.specs.declared.types.PageHead.{PageHead}
-use Rattle.pages.specs.Pages.{shareOf}
+use Rattle.asked.specs.Asked.{shareBy}
 use Rattle.exports.specs.Calls.{headOf, entriesOver}
 use Rattle.table.proofs.Entry as T
 use Rattle.halves.proofs.Share as S
 use Rattle.halves.proofs.Share.Laws as S′
 use Rattle.turns.proofs.types.PageHead as D
 use Rattle.turns.proofs.types.PageHead.Laws as D′
-use Rattle.pages.proofs.share_of as share-of
-use Rattle.pages.proofs.share_of.Symbol as share-of-def
-use Rattle.pages.proofs.share_of.Symbol.{name as #share-of}
-use Rattle.pages.proofs.share_of.Met as share-of-thm
+use Rattle.asked.proofs.share_of as share-of
+use Rattle.asked.proofs.share_of.Symbol as share-of-def
+use Rattle.asked.proofs.share_of.Symbol.{name as #share-of}
+use Rattle.asked.proofs.share_of.Met as share-of-thm
 use Rattle.exports.proofs.entries_by as entries-by
 use Rattle.exports.proofs.entries_by.Symbol as entries-by-def
 use Rattle.exports.proofs.entries_by.Symbol.{name as #entries-by}
@@ -95,7 +95,7 @@ module _ {M : Type 1} (𝓤 : URA M) (H : Heap 𝓤) (A : Atoms 𝓤) (W : Given
 
   -- the half, the answer, and the table behind it
   abbrev share : Share
-  share = shareOf half
+  share = shareBy half
 
   abbrev answer : PageHead
   answer = headOf reading number (roomOf share (length ys)) (d .now)
@@ -206,5 +206,5 @@ shorgavel-half-entries-spec 𝓤 H 𝓜 𝓖 𝓡 =
     entered 𝓤 H (tripleOf 𝓤 H (𝓖 .A) f.signature (f.spec 𝓤 H (𝓖 .A) (𝓜 .mem) (𝓡 .run)))
     (tables 𝓤 H 𝓜 𝓡 code.env .C) (tables 𝓤 H 𝓜 𝓡 code.env .Λ) #half code.function (code.unfolded 𝓤 H 𝓜 𝓡)
     (half-meets 𝓤 H (𝓖 .A) (givenOf 𝓤 H 𝓜 𝓖) (𝓜 .mem) (𝓡 .run) (tablesOf 𝓤 H 𝓜 (tables 𝓤 H 𝓜 𝓡 code.env))
-    (cited 𝓤 H (ShareOf 𝓤 H (𝓖 .A) (𝓜 .mem) (𝓡 .run)) 𝓜 𝓡 code.env #share-of share-of-def.routine code.calls-pages·share-of (share-of-thm.met 𝓤 H 𝓜 𝓖 𝓡))
+    (cited 𝓤 H (ShareOf 𝓤 H (𝓖 .A) (𝓜 .mem) (𝓡 .run)) 𝓜 𝓡 code.env #share-of share-of-def.routine code.calls-asked·share-of (share-of-thm.met 𝓤 H 𝓜 𝓖 𝓡))
     (cited 𝓤 H (EntriesBy 𝓤 H (𝓖 .A) (𝓜 .mem) (𝓡 .run)) 𝓜 𝓡 code.env #entries-by entries-by-def.routine code.calls-exports·entries-by (entries-by-thm.met 𝓤 H 𝓜 𝓖 𝓡)))

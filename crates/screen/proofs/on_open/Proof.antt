@@ -1,10 +1,10 @@
 -- The cells of a page, one behind the other: each is found once for all addresses that name it in a row.
 use Prim.Native.Nat.{ℕ, _*_, _-_, _^_, _≤_, _<_}
 use mathlib.Core.Path.{_≡_, refl, sym, _∙_}
-use mathlib.Core.Logic.{inl, inr}
 use mathlib.Core.Bool.{Bool}
 use mathlib.Core.List.{List}
 use native.Mathlib.Omega.{arith}
+use lib.IntN.{ℤ}
 use lib.ListN.{length}
 use denote.Ref.{now}
 use borrow.Author.Needs.{needs}
@@ -14,9 +14,9 @@ use Rattle.row.specs.Found.{foundBy}
 use Rattle.turns.specs.declared.types.Shown.{Shown}
 use Rattle.chosen.specs.Chosen.{locatedIn, foundShown}
 use Rattle.addresses.specs.Screen.{Address}
-use Rattle.addresses.specs.Turns.{Room, Turn, PageAnswers, namedPage}
-use Rattle.addresses.proofs.Lists.{Going, going-first, going-turned, turn-as, going-on}
-use Rattle.screen.proofs.Found.{found-checked, found-asked}
+use Rattle.addresses.specs.Turns.{Turn, CellAnswers, PageAnswers, namedPage, namedCell}
+use Rattle.addresses.proofs.Lists.{Going, going-first, going-turned, going-on}
+use Rattle.screen.proofs.Found.{cellShown, page-asked}
 use Rattle.screen.proofs.on_open.Statement.{statement}
 use Rattle.screen.proofs.on_open.Tie as tie
 
@@ -45,84 +45,47 @@ loop-holds c =
     let p = c .before .before .before .pre in
     (going-first (p .1), c .page-at .ensures, refl, p .0 .0, p .0 .1, p .0 .2)
 
-cell-at-requires : tie.Need-cell-at-requires Inv-loop μ-loop
-cell-at-requires c κs = let i = c .loop .inv in omega (arith, i .0 .within, i .3)
-
-found-in-requires : tie.Need-found-in-requires Inv-loop μ-loop
-found-in-requires c κs = search needs
-
-enum-known-found : tie.Need-enum-known-found Inv-loop μ-loop
-enum-known-found c = search needs
-
--- there are places
-room : (c : tie.At-loop Inv-loop μ-loop)
-    → Room (c .before .before .before .before .args .count) (now (c .before .before .before .before .args .addresses)) (c .loop .answers) × (c .loop .i < c .before .before .before .before .args .count)
-room c = let i = c .loop .inv in ((i .3, omega (arith, i .4, i .0 .long), i .5), i .0 .within)
-
-refused-in-requires : tie.Need-refused-in-requires Inv-loop μ-loop
-refused-in-requires c κs = room (c .before .before .before .before .before .before)
-
-enum-known-found-2 : tie.Need-enum-known-found-2 Inv-loop μ-loop
-enum-known-found-2 c = search needs
-
-in-row-requires : tie.Need-in-row-requires Inv-loop μ-loop
-in-row-requires c κs =
-    let a = c .before .before .before .before .before .before .before .before .before .before .before .before .args in (
-      found-checked (a .guarded) (a .opened) (c .before .before .before .before .before .before .before .cell-at .result) (now (a .db)) (sym (c .before .before .before .before .before .before .found-in .ensures) ∙ c .before .before .before .before .found2 .given .1),
-      room (c .before .before .before .before .before .before .before .before) .0,
-      room (c .before .before .before .before .before .before .before .before) .1,
-    )
+in-cell-requires : tie.Need-in-cell-requires Inv-loop μ-loop
+in-cell-requires c κs = let i = c .before .loop .inv in ((i .3, omega (arith, i .4, i .0 .long), i .5), i .0 .within)
 
 -- the addresses of one cell more
-turned : (c : tie.At-match-came Inv-loop μ-loop)
-    → let a = c .before .before .before .before .before .before .before .args in
-    Turn (Cells (now (a .db)) (a .reading) (a .guarded) (a .opened) (a .at) (now (a .addresses))) (a .count) (now (a .addresses)) (a .at) (c .match .i) (now (a .answers)) (c .match .answers)
-    × (c .before .before .before .loop .i < c .match .i)
-turned c =
-    let a = c .before .before .before .before .before .before .before .args in
-    let l = c .before .before .before .loop in
-    elim (c .match .came) [
-      | inl w ↦
-          let u = w .4 .ensures in (
-            turn-as
-                (going-turned (l .inv .0) u
-                (found-asked (a .reading) (a .guarded) (a .opened) (now (a .db)) (now (a .addresses)) (a .at) (l .i) (l .inv .2) (c .before .before .cell-at .ensures) (sym (c .before .found-in .ensures) ∙ w .1 .given .1)))
-                (w .7) (w .6),
-            omega (arith, w .7, u .on),
-          )
-      | inr w ↦
-          let u = w .6 .ensures in (
-            turn-as
-                (going-turned (l .inv .0) u
-                (found-asked (a .reading) (a .guarded) (a .opened) (now (a .db)) (now (a .addresses)) (a .at) (l .i) (l .inv .2) (c .before .before .cell-at .ensures) (sym (c .before .found-in .ensures) ∙ w .1 .given .1)))
-                (w .9) (w .8),
-            omega (arith, w .9, u .on),
-          )
-    ]
+turned : (c : tie.At-loop Inv-loop μ-loop) {next : ℕ} {after : List ℤ}
+    → let a = c .before .before .before .before .args in
+    let l = c .loop in
+    let cell = namedCell (l .i) (now (a .addresses)) in
+    Turn (CellAnswers (namedPage (l .i) (now (a .addresses))) cell (cellShown (a .reading) (a .guarded) (a .opened) (now (a .db)) (now (a .addresses)) (l .i) cell)) (a .count) (now (a .addresses)) (l .i) next (l .answers) after
+    → Turn (Cells (now (a .db)) (a .reading) (a .guarded) (a .opened) (a .at) (now (a .addresses))) (a .count) (now (a .addresses)) (a .at) next (now (a .answers)) after
+turned c u =
+    let a = c .before .before .before .before .args in
+    let l = c .loop in
+    going-turned (l .inv .0) u (page-asked (a .reading) (a .guarded) (a .opened) (now (a .db)) (now (a .addresses)) (a .at) (l .i) (l .inv .2))
 
 same-length : tie.Need-same-length Inv-loop μ-loop
-same-length c = turned (c .before) .0 .long
+same-length c = turned (c .before .before .before .before) (c .before .before .in-cell .ensures) .long
 
 returns : tie.Need-returns Inv-loop μ-loop
-returns c = turned (c .before) .0
+returns c = turned (c .before .before .before .before) (c .before .before .in-cell .ensures)
 
 page-at-requires-2 : tie.Need-page-at-requires-2 Inv-loop μ-loop
 page-at-requires-2 c κs = let i = c .before .before .before .before .loop .inv in omega (arith, c .if1 .left, i .0 .on, i .0 .within, i .3)
 
 same-length-2 : tie.Need-same-length-2 Inv-loop μ-loop
-same-length-2 c = turned (c .before .before .before) .0 .long
+same-length-2 c = let own = c .before .before .before .before in turned (own .before .before) (own .in-cell .ensures) .long
 
 returns-2 : tie.Need-returns-2 Inv-loop μ-loop
-returns-2 c = turned (c .before .before .before) .0
+returns-2 c = let own = c .before .before .before .before in turned (own .before .before) (own .in-cell .ensures)
 
 loop-less : tie.Need-loop-less Inv-loop μ-loop
-loop-less c = let t = turned (c .before .before .before) in omega (arith, t .1, t .0 .within)
+loop-less c =
+    let own = c .before .before .before .before .in-cell .ensures in
+    omega (arith, own .on, own .within)
 
 loop-again : tie.Need-loop-again Inv-loop μ-loop
 loop-again c =
-    let l = c .before .before .before .before .before .before .loop in
-    let page = c .before .before .before .before .before .before .before .page-at .ensures in
-    (going-on (turned (c .before .before .before) .0) (c .before .before .if1 .left), l .inv .1, sym (c .before .page-at2 .ensures) ∙ c .if2 .left ∙ page, l .inv .3, l .inv .4, l .inv .5)
+    let own = c .before .before .before .before in
+    let l = own .before .before .loop in
+    let page = own .before .before .before .page-at .ensures in
+    (going-on (turned (own .before .before) (own .in-cell .ensures)) (c .before .before .if1 .left), l .inv .1, sym (c .before .page-at2 .ensures) ∙ c .if2 .left ∙ page, l .inv .3, l .inv .4, l .inv .5)
 
 pub on-open-spec : {M : Type 1} → statement M
 on-open-spec =
@@ -132,12 +95,7 @@ on-open-spec =
     μ-loop
     page-at-requires
     loop-holds
-    cell-at-requires
-    found-in-requires
-    enum-known-found
-    refused-in-requires
-    enum-known-found-2
-    in-row-requires
+    in-cell-requires
     same-length
     returns
     page-at-requires-2

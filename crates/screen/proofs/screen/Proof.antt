@@ -43,7 +43,8 @@ on-page-requires c κs =
     let l = c .before .before .loop in
     let n = c .before .before .before .before .before .count-of .ensures in
     let m = c .before .before .before .before .places-of .ensures in
-    ((omega (arith, n .0), omega (arith, c .before .before .before .if1 .left, m .0, l .inv .1), omega (arith, c .before .before .before .if1 .left, m .1)), c .before .loop-test .taken)
+    let room = c .before .before .before .if1 .left in
+    ((omega (arith, n .0), omega (arith, room, m .0, l .inv .1), omega (arith, room, m .1)), c .before .loop-test .taken)
 
 loop-less : tie.Need-loop-less Inv-loop μ-loop
 loop-less c = let u = c .before .on-page .ensures in omega (arith, u .on, u .within)
@@ -67,10 +68,11 @@ returns-2 c =
     let l = c .before .before .loop in
     let n = c .before .before .before .before .before .count-of .ensures in
     let m = c .before .before .before .before .places-of .ensures in
+    let room = c .before .before .before .if1 .left in
     let e : l .i ≡ length (now (a .addresses)) / 3 = omega (arith, c .before .loop-test .left, l .inv .0, n .0) in
     let f = answerTo (a .chosen) (now (a .db)) in
-    let all = rw (← n .0) at (rest-all f (now (a .addresses)) (now (a .answers)) (omega (arith, n .0, m .0, c .before .before .before .if1 .left))) in
-    rw (← n .0, ← m .0, le-ltb _ _ (c .before .before .before .if1 .left), c .no-refusal .ensures)
+    let all = rw (← n .0) at (rest-all f (now (a .addresses)) (now (a .answers)) (omega (arith, n .0, m .0, room))) in
+    rw (← n .0, ← m .0, le-ltb _ _ room, c .no-refusal .ensures)
     (refl, sym (rest-end f (now (a .addresses)) (l .i) (l .answers) e) ∙ l .inv .2 ∙ all)
 
 pub screen-spec : {M : Type 1} → statement M

@@ -8,9 +8,9 @@ use denote.Ref.{now}
 use borrow.Author.Needs.{needs}
 use Rattle.serial.specs.declared.Width.the-variants.{Bytes}
 use Rattle.checked.specs.Whole.{bytesIn}
-use Rattle.filled.specs.Manners.{valueBy}
-use Rattle.filled.proofs.Filling.{Held}
-use Rattle.filled.proofs.Filling as filling
+use Rattle.manners.specs.Manners.{valueBy}
+use Rattle.run.proofs.Filling.{Held}
+use Rattle.run.proofs.Filling as filling
 use Rattle.columns.proofs.Laws.{type-within}
 use Rattle.checked.proofs.Laws.{Left, Next, at-first, next, byte-width, long-width, long-room}
 use Rattle.filled.proofs.Checked.{byte-value, byte-behind, long-value, long-behind, goes-on, comes-to-end, smaller}
@@ -32,7 +32,7 @@ both c =
 
 -- so there is a column
 coming : (c : tie.In-loop Inv-loop μ-loop)
-    → Next (c .before .before .before .before .before .before .args .first .reading) (c .before .before .before .before .before .before .args .columns) (now (c .before .before .before .before .before .before .args .db)) (c .before .loop .here) (c .before .loop .n)
+    → let a = c .before .before .before .before .before .before .args in let l = c .before .loop in Next (a .first .reading) (a .columns) (now (a .db)) (l .here) (l .n)
 coming c = let l = c .before .loop in next (now (c .before .before .before .before .before .before .args .db)) (l .here) (l .n) (l .inv .1) (both c .0)
 
 -- and a place
@@ -52,7 +52,9 @@ loop-holds c =
 
 shared-slice-read-serial : tie.Need-shared-slice-read-serial Inv-loop μ-loop
 shared-slice-read-serial c =
-    let w : c .before .before .loop .here .at < length (now (c .before .before .before .before .before .before .before .args .db)) = type-within (c .before .before .loop .here) (now (c .before .before .before .before .before .before .before .args .db)) (coming (c .before) .read) .1 in
+    let here = c .before .before .loop .here in
+    let db = now (c .before .before .before .before .before .before .before .args .db) in
+    let w : here .at < length db = type-within here db (coming (c .before) .read) .1 in
     search needs
 
 cast-serial : tie.Need-cast-serial Inv-loop μ-loop
@@ -72,10 +74,11 @@ mul-put-value c = omega (arith, both (c .before .before .before .before) .1, c .
 
 put-value-requires : tie.Need-put-value-requires Inv-loop μ-loop
 put-value-requires c κs =
-    let l = c .before .before .before .before .before .loop in
-    let x = coming (c .before .before .before .before) in
-    let f = byte-width (now (c .before .before .before .before .before .before .before .before .before .before .args .db)) (l .here) (l .n) (l .inv .1) x (c .before .before .if2 .taken) in
-    (place (c .before .before .before .before), f ∙ ap Bytes (sym (ap bytesIn f)), omega (arith, ap bytesIn f, x .room, l .inv .1 .within))
+    let turn = c .before .before .before .before in
+    let l = turn .before .loop in
+    let x = coming turn in
+    let f = byte-width (now (turn .before .before .before .before .before .before .args .db)) (l .here) (l .n) (l .inv .1) x (c .before .before .if2 .taken) in
+    (place turn, f ∙ ap Bytes (sym (ap bytesIn f)), omega (arith, ap bytesIn f, x .room, l .inv .1 .within))
 
 moved-requires : tie.Need-moved-requires Inv-loop μ-loop
 moved-requires c κs =
@@ -108,19 +111,23 @@ add-end c =
     let w = long-width (now (c .before .before .before .before .before .before .before .before .before .before .before .args .db)) (l .here) (l .n) (l .inv .1) x (c .before .type-in .ensures) in
     omega (arith, c .width-in .ensures ∙ w, x .room, l .inv .1 .within)
 
-mul-put : tie.Need-mul-put Inv-loop μ-loop
-mul-put c = omega (arith, both (c .before .before .before .before .before .before) .1, c .before .before .before .before .before .before .before .before .before .places-of .ensures .1)
-
 value-at-requires : tie.Need-value-at-requires Inv-loop μ-loop
 value-at-requires c κs = search needs
 
-put-requires : tie.Need-put-requires Inv-loop μ-loop
-put-requires c κs = place (c .before .before .before .before .before .before .before)
+mul-put-at : tie.Need-mul-put-at Inv-loop μ-loop
+mul-put-at c =
+    let turn = c .before .before .before .before .before .before .before in
+    omega (arith, both turn .1, turn .before .before .before .places-of .ensures .1)
+
+put-at-requires : tie.Need-put-at-requires Inv-loop μ-loop
+put-at-requires c κs = place (c .before .before .before .before .before .before .before)
 
 moved-requires-2 : tie.Need-moved-requires-2 Inv-loop μ-loop
 moved-requires-2 c κs =
-    let l = c .before .before .before .before .before .before .before .before .before .before .loop in
-    let r = long-room (now (c .before .before .before .before .before .before .before .before .before .before .before .before .before .before .before .args .db)) (l .here) (l .n) (l .inv .1) (coming (c .before .before .before .before .before .before .before .before .before)) (c .before .before .before .before .before .type-in .ensures) in
+    let read = c .before .before .before .before .before in
+    let turn = read .before .before .before .before in
+    let l = turn .before .loop in
+    let r = long-room (now (turn .before .before .before .before .before .before .args .db)) (l .here) (l .n) (l .inv .1) (coming turn) (read .type-in .ensures) in
     omega (arith, r, l .inv .1 .header)
 
 add-n : tie.Need-add-n Inv-loop μ-loop
@@ -149,10 +156,10 @@ loop-again c =
           (w .7 ∙ w .5 .ensures ∙ byte-behind db (l .here) (l .n) (l .inv .1) x b (w .3 .result) (w .3 .ensures .0))
       | inr w ↦
           let e = w .2 .ensures in
-          on (w .5 .result)
-          (w .5 .ensures ∙ long-value db (l .here) (l .n) (l .inv .1) x e)
-          (w .9 ∙ w .6 .ensures)
-          (w .10 ∙ w .8 .ensures ∙ long-behind db (l .here) (l .n) (l .inv .1) x e (l .here .value + w .3 .result) (ap (λ z. l .here .value + z) (w .3 .ensures)))
+          on (w .4 .result)
+          (w .4 .ensures ∙ long-value db (l .here) (l .n) (l .inv .1) x e)
+          (w .9 ∙ w .6 .ensures .1)
+          (w .10 ∙ w .8 .ensures ∙ long-behind db (l .here) (l .n) (l .inv .1) x e (w .6 .result) (w .6 .ensures .0 ∙ ap (λ z. l .here .value + z) (w .3 .ensures)))
     ]
 
 filled-of-requires : tie.Need-filled-of-requires Inv-loop μ-loop
@@ -192,9 +199,9 @@ fill-spec =
     type-in-requires
     width-in-requires
     add-end
-    mul-put
     value-at-requires
-    put-requires
+    mul-put-at
+    put-at-requires
     moved-requires-2
     add-n
     loop-less

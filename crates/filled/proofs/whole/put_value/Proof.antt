@@ -11,8 +11,9 @@ use Rattle.laws.proofs.Casts.{widen-fits, widen-same}
 use Rattle.serial.proofs.Laws.{ten, width-past}
 use Rattle.turns.specs.Shown.{integerOf, realOf}
 use Rattle.turns.specs.Words.{wordsOf}
-use Rattle.filled.specs.Manners.{longFrom, valueBy}
-use Rattle.filled.proofs.Manners.{bytes-as, stored-as, by-long}
+use Rattle.manners.specs.Manners.{longFrom, valueBy}
+use Rattle.manners.proofs.Laws.{bytes-as, by-long}
+use Rattle.filled.proofs.Stored.{stored-as}
 use borrow.Author.Needs.{needs}
 use Rattle.filled.proofs.whole.put_value.Statement.{statement}
 use Rattle.filled.proofs.whole.put_value.Tie as tie

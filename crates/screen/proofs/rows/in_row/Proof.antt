@@ -52,7 +52,7 @@ past-requires c κs = (c .before .before .before .before .before .before .pre .0
 
 -- the cursor has come to the column that is asked for
 reached : (c : tie.Joined2 Inv-loop μ-loop)
-    → Before (c .before .before .before .before .before .before .args .first) (c .before .before .before .before .before .before .args .columns) (now (c .before .before .before .before .before .before .args .db)) (c .if2 .here) (c .before .before .column-at .result)
+    → let a = c .before .before .before .before .before .before .args in Before (a .first) (a .columns) (now (a .db)) (c .if2 .here) (c .before .before .column-at .result)
 reached c =
     let a = c .before .before .before .before .before .before .args in
     let k = c .before .before .column-at .result in
@@ -69,45 +69,30 @@ reached c =
 type-at-requires : tie.Need-type-at-requires Inv-loop μ-loop
 type-at-requires c κs = coming (reached c) (c .before .if1 .taken)
 
-sub-value-of : tie.Need-sub-value-of Inv-loop μ-loop
-sub-value-of c = let b = reached (c .before) .left in omega (arith, b .ordered, b .within)
-
-part-value-of-start : tie.Need-part-value-of-start Inv-loop μ-loop
-part-value-of-start c = let b = reached (c .before) .left in omega (arith, b .ordered, b .within)
-
-part-value-of-end : tie.Need-part-value-of-end Inv-loop μ-loop
-part-value-of-end c = let b = reached (c .before) .left in omega (arith, b .ordered, b .within)
-
-value-of-requires : tie.Need-value-of-requires Inv-loop μ-loop
-value-of-requires c κs = search needs
-
-mul-put : tie.Need-mul-put Inv-loop μ-loop
-mul-put c = let i = c .before .before .before .before .before .before .before .loop .inv in omega (arith, i .1 .there, i .5)
-
-no-refusal-requires : tie.Need-no-refusal-requires Inv-loop μ-loop
-no-refusal-requires c κs = search needs
+value-shown-requires : tie.Need-value-shown-requires Inv-loop μ-loop
+value-shown-requires c κs = search needs
 
 put-requires : tie.Need-put-requires Inv-loop μ-loop
-put-requires c κs = let i = c .before .before .before .before .before .before .before .before .loop .inv in omega (arith, i .1 .there, i .4, i .0 .long)
+put-requires c κs = let i = c .before .before .before .before .before .before .loop .inv in omega (arith, i .1 .there, i .4, i .0 .long)
 
 moved-requires : tie.Need-moved-requires Inv-loop μ-loop
 moved-requires c κs =
-    let b = reached (c .before .before .before .before .before .before .before) in
-    let l = c .before .before .before .before .before .before .before .before .if1 .taken in
-    let e = c .before .before .before .before .before .before .type-at .ensures in
+    let t = c .before .before .before .before in
+    let b = reached (t .before) in
+    let l = t .before .before .if1 .taken in
+    let e = t .type-at .ensures in
     (omega (arith, type-ends b l e, b .left .header), omega (arith, value-ends b l e, b .left .within))
 
 add-column : tie.Need-add-column Inv-loop μ-loop
-add-column c = omega (arith, c .before .before .before .before .before .before .before .before .before .if1 .taken, c .before .before .before .before .before .before .before .before .before .before .before .before .before .before .fits .columns)
+add-column c =
+    let k = c .before .before .before .before .before .before .before in
+    omega (arith, k .if1 .taken, k .before .before .before .before .before .fits .columns)
 
 page-at-requires : tie.Need-page-at-requires Inv-loop μ-loop
 page-at-requires c κs = let i = c .before .before .loop .inv in omega (arith, i .0 .on, i .1 .there, i .3)
 
-mul-put-2 : tie.Need-mul-put-2 Inv-loop μ-loop
-mul-put-2 c = let i = c .before .before .before .before .loop .inv in omega (arith, i .1 .there, i .5)
-
-refused-shown-requires : tie.Need-refused-shown-requires Inv-loop μ-loop
-refused-shown-requires c κs = search needs
+none-shown-requires : tie.Need-none-shown-requires Inv-loop μ-loop
+none-shown-requires c κs = search needs
 
 put-requires-2 : tie.Need-put-requires-2 Inv-loop μ-loop
 put-requires-2 c κs = let i = c .before .before .before .before .before .loop .inv in omega (arith, i .1 .there, i .4, i .0 .long)
@@ -130,14 +115,14 @@ stored c =
       | inl w ↦
           let b = reached (record { before = record { before = c .before; if1 = w .0 }; if2 = w .1 }) in
           let e = w .2 .ensures in (
-            going-stored (i .0) (i .3) (w .10 ∙ w .7 .ensures)
-                (λ f must. shown-found (a .reading) page db (column-here b (w .0 .taken) e) (w .6 .ensures) (w .4 .ensures) ∙ sym (asked f must)),
-            subst (λ (n : ℕ). Before (a .first) (a .columns) db (c .if1 .here) n) (sym (w .12)) (before-next b (w .0 .taken) e (w .11 ∙ w .9 .ensures)),
+            going-stored (i .0) (i .3) (w .8 ∙ w .5 .ensures)
+                (λ f must. shown-found (a .reading) page db (column-here b (w .0 .taken) e) (w .3 .ensures .0) (w .3 .ensures .1) ∙ sym (asked f must)),
+            subst (λ (n : ℕ). Before (a .first) (a .columns) db (c .if1 .here) n) (sym (w .10)) (before-next b (w .0 .taken) e (w .9 ∙ w .7 .ensures)),
           )
       | inr w ↦
           let none = none-behind (c .before .before .before .before .before .pre .0) (c .before .column-at .result) (w .0 .left) in (
             going-stored (i .0) (i .3) (w .6 ∙ w .4 .ensures)
-                (λ f must. w .3 .ensures ∙ ap (λ (n : ℕ). refusedShown (OnPage n NoSuchColumn)) (w .1 .ensures) ∙ ap (slotShown (a .reading) page db) (sym none) ∙ sym (asked f must)),
+                (λ f must. w .2 .ensures ∙ ap (λ (n : ℕ). refusedShown (OnPage n NoSuchColumn)) (w .1 .ensures) ∙ ap (slotShown (a .reading) page db) (sym none) ∙ sym (asked f must)),
             subst (λ (n : ℕ). Before (a .first) (a .columns) db (c .if1 .here) n) (sym (w .8)) (subst (λ (h : Cursor). Before (a .first) (a .columns) db h (l .column)) (sym (w .7)) (i .2)),
           )
     ]
@@ -175,18 +160,12 @@ in-row-spec =
     column-at-requires
     past-requires
     type-at-requires
-    sub-value-of
-    part-value-of-start
-    part-value-of-end
-    value-of-requires
-    mul-put
-    no-refusal-requires
+    value-shown-requires
     put-requires
     moved-requires
     add-column
     page-at-requires
-    mul-put-2
-    refused-shown-requires
+    none-shown-requires
     put-requires-2
     add-i
     names-same-requires

@@ -46,8 +46,9 @@ loop-again c =
 returns : tie.Need-returns Inv-loop μ-loop
 returns c =
     let l = c .before .loop in
-    let all : l .n ≡ c .before .before .before .args .k = omega (arith, c .loop-test .left, l .inv .1) in
-    l .inv .0 .is ∙ ap (λ n. pastOf n (c .before .before .before .args .first) (now (c .before .before .before .args .db))) all
+    let a = c .before .before .before .args in
+    let all : l .n ≡ a .k = omega (arith, c .loop-test .left, l .inv .1) in
+    l .inv .0 .is ∙ ap (λ n. pastOf n (a .first) (now (a .db))) all
 
 pub past-spec : {M : Type 1} → statement M
 past-spec =

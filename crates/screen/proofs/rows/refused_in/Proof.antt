@@ -40,9 +40,6 @@ loop-holds c =
     let p = c .before .before .pre in
     (going-first (p .1), same-first _ _ _ (p .1), p .0 .0, p .0 .1, p .0 .2)
 
-mul-put : tie.Need-mul-put Inv-loop μ-loop
-mul-put c = let i = c .before .loop .inv in omega (arith, i .1 .there, i .4)
-
 put-requires : tie.Need-put-requires Inv-loop μ-loop
 put-requires c κs = let i = c .before .loop .inv in omega (arith, i .1 .there, i .3, i .0 .long)
 
@@ -70,13 +67,14 @@ returns : tie.Need-returns Inv-loop μ-loop
 returns c =
     let a = c .before .before .before .before .before .before .before .before .args in
     let l = c .before .before .before .before .before .loop in
+    let shown = c .before .before .before .before .before .before .refused-shown in
     let p = namedPage (a .at) (now (a .addresses)) in
     let q = namedCell (a .at) (now (a .addresses)) in
     subst (λ (t : List ℤ). Turn (CellAnswers p q (λ k. refusedShown (a .refusal))) (a .count) (now (a .addresses)) (a .at) (l .i + 1) (now (a .answers)) t)
     (sym (c .before .before .before .put .ensures))
     (subst
-    (λ (s : Shown). Turn (CellAnswers p q (λ k. s)) (a .count) (now (a .addresses)) (a .at) (l .i + 1) (now (a .answers)) (sets (l .answers) (8 * l .i) (shownWords (c .before .before .before .before .before .before .refused-shown .result))))
-    (c .before .before .before .before .before .before .refused-shown .ensures)
+    (λ (s : Shown). Turn (CellAnswers p q (λ k. s)) (a .count) (now (a .addresses)) (a .at) (l .i + 1) (now (a .answers)) (sets (l .answers) (8 * l .i) (shownWords (shown .result))))
+    (shown .ensures)
     (stored (c .before .before)))
 
 loop-less : tie.Need-loop-less Inv-loop μ-loop
@@ -105,7 +103,6 @@ refused-in-spec =
     μ-loop
     refused-shown-requires
     loop-holds
-    mul-put
     put-requires
     add-i
     names-same-requires
