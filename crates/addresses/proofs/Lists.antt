@@ -114,10 +114,6 @@ module _ {Must : (Address → Shown) → Type 0} {count : ℕ} {addresses : List
           is = λ f must. u .is f (h f must) ∙ t .is f must;
         }
 
-  pub turn-as : {next n : ℕ} {answers list : List ℤ} → Turn Must count addresses at next lent answers → n ≡ next → list ≡ answers
-      → Turn Must count addresses at n lent list
-  turn-as t e l = rw (e, l) t
-
   -- and on
   pub going-on : {next : ℕ} {answers : List ℤ} → Turn Must count addresses at next lent answers → next < count → Going Must count addresses at next lent answers
   going-on u l = record { on = omega (arith, u .on); within = l; long = u .long; is = u .is }

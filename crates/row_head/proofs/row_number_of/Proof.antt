@@ -1,6 +1,5 @@
 -- The answer decides.
 use mathlib.Core.Path.{sym, ap, _∙_}
-use mathlib.Core.Bool.{Bool}
 use lib.IntN.{ℤ}
 use denote.Ref.{now}
 use mir.Syntax.{w64}

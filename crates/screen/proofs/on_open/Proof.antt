@@ -7,7 +7,6 @@ use native.Mathlib.Omega.{arith}
 use lib.IntN.{ℤ}
 use lib.ListN.{length}
 use denote.Ref.{now}
-use borrow.Author.Needs.{needs}
 use Rattle.reading.specs.declared.Reading.{Reading}
 use Rattle.page.specs.declared.Open.{Open}
 use Rattle.row.specs.Found.{foundBy}
