@@ -1,6 +1,8 @@
 -- The theorems: by the row that the guarded reading shows or refuses, by the first that it refuses, and by the three answers.
+--
+-- The theorems are on what the call is defined to answer, by the count of the walk and the first row that is refused, and so unfold it.
 use Prim.Native.Nat.{ℕ, _-_}
-use mathlib.Core.Path.{_≡_, refl, sym, ap, subst, _∙_}
+use mathlib.Core.Path.{_≡_, refl, ap, subst, _∙_}
 use mathlib.Core.List.{List, [], _∷_}
 use mathlib.Core.Bool.{Bool, true, false}
 use mathlib.Core.Logic.{_⊎_, inl, inr}
@@ -24,7 +26,7 @@ use Rattle.walk.specs.Counted.{countOf}
 use Rattle.trees.specs.Trees.{Cell, Each}
 use Rattle.trees.proofs.Places.{are-cells}
 use Rattle.agreement.specs.Shows.{Meaning, row, none, listed, guardedShows}
-use Rattle.agreement.proofs.Rows.{fileValue, fileRow, guarded-is, row-shown}
+use Rattle.agreement.proofs.Rows.{fileValue, fileRow, guarded-is}
 use Rattle.agreement.proofs.Agrees.{guarded-agrees}
 use Rattle.trust.specs.declared.First.{First}
 use Rattle.trust.specs.declared.First.the-variants as fi

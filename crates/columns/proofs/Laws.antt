@@ -30,6 +30,7 @@ use Rattle.columns.specs.declared.Stepped.the-variants.{Column, Done}
 use Rattle.columns.specs.declared.Slot.{Slot}
 use Rattle.columns.specs.declared.Slot.the-variants.{Found, Missing}
 use Rattle.columns.specs.Columns.{typesAt, endIn, slotIn, slotOf, behind, passed, stepIn, stepOf}
+use Rattle.columns.proofs.Extents.{found-none}
 
 module _ (c : Cursor) (db : List ℕ) where
   -- the bytes of the types before the cursor
@@ -138,6 +139,11 @@ module _ (c : Cursor) (db : List ℕ) where
   pub slot-within : c .end ≤ length db → (k : ℕ) → slotOf k c db ≡ slotIn k (c .value) (c .end) (typesAt c db)
   unfolding slotOf
   slot-within l k = let e : endIn c db ≡ c .end = omega arith in rw e
+
+  -- none is behind as many as there are types
+  pub slot-none : (k : ℕ) → count (typesAt c db) ≤ k → slotOf k c db ≡ Missing
+  unfolding slotOf
+  slot-none k l = found-none k (c .value) (endIn c db) (typesAt c db) l
 
   pub slot-done : (k : ℕ) → stepOf c db ≡ Done → slotOf k c db ≡ Missing
   unfolding stepOf stepIn slotOf slotIn

@@ -11,8 +11,8 @@ use borrow.Author.Tests.{lt-ltb, le-ltb, ne-eqb, ltb-false}
 use Rattle.laws.specs.Pick.{pick}
 use Rattle.reading.specs.declared.Reading.the-variants.{Old as old, File as file}
 use Rattle.place.specs.declared.Place.the-variants.{At, Absent}
-use Rattle.shape.specs.declared.Shape.{Shape}
-use Rattle.place.specs.Place.{filePage, headerAt, placeFrom, placeOf}
+use Rattle.place.specs.Place.{headerAt, placeFrom}
+use Rattle.place.proofs.Laws.{old-placed, file-placed}
 use Rattle.shape.specs.Shape.{wholePages}
 use Rattle.page_theorems.specs.Counted.{CountedAreThere}
 use Rattle.shape.proofs.Laws.{shape-present, old-pages}
@@ -36,25 +36,20 @@ module _ (bytes size : ℕ) (some : 0 < size) (index : ℕ) where
       let l : bytes < index * size + size = rw end-is at (div-lt-iff-lt-mul {k = size} {x = bytes} {y = suc index} some .0 (omega arith)) in
       rw (lt-ltb bytes (index * size + size) l)
 
--- a page of the file reading, by its index
-file-is : (bytes index : ℕ) (shape : Shape)
-    → placeOf (filePage (suc index)) bytes shape ≡ pick (ltb (shape .pages) (suc index)) Absent (placeFrom bytes (shape .«page_size») index)
-unfolding placeOf
-file-is bytes index shape = let m : suc index - 1 ≡ index = omega arith in rw (ne-eqb (suc index) 0 (omega arith), m)
-
 pub counted-are-there : CountedAreThere
-unfolding placeOf
 counted-are-there old db shape e some index =
     let size = shape .«page_size» in
     let whole = wholePages (length db) size in
-    let p : shape .present ≡ whole = omega (arith, shape-present old db e, old-pages db e) in
-    ((λ h. whole-there (length db) size some index (omega arith)), (λ h. whole-absent (length db) size some index (omega arith)))
+    let p : shape .present ≡ whole = omega (arith, shape-present old db e, old-pages db e) in (
+      (λ h. old-placed index (length db) shape ∙ whole-there (length db) size some index (omega arith)),
+      (λ h. old-placed index (length db) shape ∙ whole-absent (length db) size some index (omega arith)),
+    )
 counted-are-there file db shape e some index =
     let size = shape .«page_size» in
     let whole = wholePages (length db) size in
     let p : shape .present ≡ min (shape .pages) whole = shape-present file db e in (
-      (λ h. rw (file-is (length db) index shape, le-ltb (shape .pages) (suc index) (omega arith)) (whole-there (length db) size some index (omega arith))),
-      (λ h. file-is (length db) index shape ∙ go h p (ltb (shape .pages) (suc index)) refl),
+      (λ h. rw (file-placed index (length db) shape, le-ltb (shape .pages) (suc index) (omega arith)) (whole-there (length db) size some index (omega arith))),
+      (λ h. file-placed index (length db) shape ∙ go h p (ltb (shape .pages) (suc index)) refl),
     )
   where
     go : shape .present ≤ index → shape .present ≡ min (shape .pages) (wholePages (length db) (shape .«page_size»))

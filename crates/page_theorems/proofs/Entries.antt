@@ -13,16 +13,16 @@ use Rattle.row_head.proofs.Told.{count-located, row-located}
 use Rattle.table.specs.declared.Entry.{Entry}
 use Rattle.table.specs.Entry.{entryBy, entryFor}
 use Rattle.page_theorems.specs.Entries.{EntriesAgree}
-use Rattle.table.proofs.Laws.{page-cell}
+use Rattle.table.proofs.Laws.{page-cell, entry-opened}
 
 pub entries-agree : EntriesAgree
-unfolding entryFor
 entries-agree page room i db head e b =
     let c = page-cell page room i db e b in
     let s = c .steps in
     let located : locatedOf page i db ≡ shown (c .l) = located-open page i db (s .first) ∙ s .second in
     let entry : entryFor (openAnswer (openOf page db)) db i ≡ entryBy (s .o) (locatedAnswer (shown (c .l))) =
     ap (λ (x : Answer Refusal Open). entryFor (openAnswer x) db i) (s .first)
+    ∙ entry-opened (s .o) db i
     ∙ ap (λ (x : Answer Refusal Located). entryBy (s .o) (locatedAnswer x)) (s .second) in (
       cellShortest (c .l .cell),
       count-located page i db located ∙ ap (λ (y : Entry). co.Shown (y .columns) (cellShortest (c .l .cell))) (sym entry),

@@ -8,7 +8,7 @@ use native.Mathlib.Omega.{arith}
 use lib.Dec.{ltb, eqb}
 use lib.ListN.{length, drop, length-drop}
 use lib.Seq.{length-take-le}
-use borrow.Author.Tests.{ltb-false}
+use borrow.Author.Tests.{ltb-false, ne-eqb}
 use Rattle.laws.specs.Pick.{pick}
 use Rattle.laws.proofs.Never.{never}
 use Rattle.reading.specs.declared.Reading.{Reading}
@@ -50,6 +50,17 @@ by-lies file bytes shape number = go (eqb number 0) (behindLast shape number)
 pub place-lies : (page : Page) (bytes : ℕ) (shape : Shape) → Lies (shape .«page_size») bytes (placeOf page bytes shape)
 unfolding placeOf
 place-lies page bytes shape = by-lies (page .reading) bytes shape (page .number)
+
+-- a page by its index: the old reading counts them from 0
+pub old-placed : (index bytes : ℕ) (shape : Shape) → placeOf (oldPage index) bytes shape ≡ placeFrom bytes (shape .«page_size») index
+unfolding placeOf
+old-placed index bytes shape = refl
+
+-- and the file reading from 1, as many as there are
+pub file-placed : (index bytes : ℕ) (shape : Shape)
+    → placeOf (filePage (suc index)) bytes shape ≡ pick (behindLast shape (suc index)) Absent (placeFrom bytes (shape .«page_size») index)
+unfolding placeOf
+file-placed index bytes shape = let m : suc index - 1 ≡ index = omega arith in rw (ne-eqb (suc index) 0 (omega arith), m)
 
 -- a page of the file reading stands where the old one has it, counted from 0, in any shape of the same size
 pub old-place : (n bytes : ℕ) (s t : Shape) {at from : ℕ} → s .«page_size» ≡ t .«page_size»

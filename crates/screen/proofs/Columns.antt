@@ -13,10 +13,9 @@ use Rattle.serial.specs.Serial.{widthOf}
 use Rattle.columns.specs.declared.Cursor.{Cursor}
 use Rattle.columns.specs.declared.Slot.{Slot}
 use Rattle.columns.specs.declared.Slot.the-variants.{Found, Missing}
-use Rattle.columns.specs.Columns.{slotOf, typesAt, endIn, behind, stepOf}
+use Rattle.columns.specs.Columns.{slotOf, behind, stepOf}
 use Rattle.columns.specs.Along.{slotBy}
-use Rattle.columns.proofs.Laws.{ahead, type-within}
-use Rattle.columns.proofs.Extents.{found-none}
+use Rattle.columns.proofs.Laws.{ahead, type-within, slot-none}
 use Rattle.checked.specs.Whole.{Whole, bytesIn, numberBy}
 use Rattle.checked.specs.Past.{pastOf}
 use Rattle.checked.proofs.Laws.{Left, at-first, Next, next}
@@ -40,8 +39,7 @@ module _ {first : Cursor} {columns : ℕ} {db : List ℕ} where
 
   -- there is none behind the last
   pub none-behind : Whole first columns db → (k : ℕ) → columns ≤ k → slotOf k first db ≡ Missing
-  unfolding slotOf
-  none-behind w k l = found-none k (first .value) (endIn first db) (typesAt first db) (rw (w .columns) l)
+  none-behind w k l = slot-none first db k (rw (w .columns) l)
 
   module _ {here : Cursor} {n : ℕ} (b : Before first columns db here n) (l : n < columns) where
     abbrev x : Next (first .reading) columns db here n

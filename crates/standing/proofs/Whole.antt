@@ -1,4 +1,7 @@
 -- An accepted walk has every row that stands in the table, and counts them.
+--
+-- The proof goes along the walk, clause by clause, and so unfolds its three functions, which stand in `trace`, and what `walk` counts by them: a law for each clause
+-- would be the definition again.
 use Prim.Native.Nat.{ℕ, zero, suc, _+_, _≤_, _<_}
 use mathlib.Core.Path.{_≡_, refl, ap, _∙_}
 use mathlib.Core.List.{List, [], _∷_, _++_}

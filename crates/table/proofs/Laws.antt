@@ -5,11 +5,11 @@ use mathlib.Core.Path.{_≡_, refl, ap, _∙_}
 use mathlib.Core.List.{List, [], _∷_, _++_}
 use mathlib.Core.Bool.{Bool, true, false}
 use native.Mathlib.Omega.{arith}
-use native.Mathlib.Nat.{add-zero}
+use native.Mathlib.Nat.{le-refl}
 use native.Mathlib.Numerals.{add-one}
 use lib.Dec.{ltb}
 use lib.ListN.{length, drop, length-append}
-use borrow.Author.Tests.{ltb-false}
+use borrow.Author.Tests.{ltb-false, lt-ltb, le-ltb}
 use Rattle.laws.specs.Pick.{pick}
 use Rattle.laws.proofs.Never.{never}
 use Rattle.answers.specs.declared.Reason.the-variants as re
@@ -22,7 +22,9 @@ use Rattle.page.specs.declared.OpenAnswer.{OpenAnswer}
 use Rattle.page.specs.declared.OpenAnswer.the-variants as oa
 use Rattle.site.specs.Site.{onPage}
 use Rattle.page.specs.Open.{openOf, openAnswer, liesIn}
-use Rattle.cells.specs.Located.{Located, locatedIn}
+use Rattle.page.proofs.Opened.{opened-lies}
+use Rattle.page.proofs.Steps.{open-page, open-fits}
+use Rattle.cells.specs.Located.{Located, locatedIn, locatedAnswer}
 use Rattle.cells.proofs.Laws.{Steps}
 use Rattle.sound.specs.declared.CellsAnswer.{CellsAnswer}
 use Rattle.sound.specs.declared.CellsAnswer.the-variants as ce
@@ -31,7 +33,7 @@ use Rattle.sound.proofs.Laws.{each}
 use Rattle.table.specs.declared.Head.{Head}
 use Rattle.table.specs.declared.PageAnswer.the-variants as pa
 use Rattle.table.specs.Head.{headOf}
-use Rattle.table.specs.Entry.{entryFor, entries}
+use Rattle.table.specs.Entry.{entryBy, entryFor, entries}
 use Rattle.table.specs.Page.{headBy, pageIn, pageAnswer, pageFor, pageOf, written}
 
 -- AN ACCEPTED PAGE
@@ -83,7 +85,22 @@ cells-within (oa.Shown o) room db = go (pageIn o room db) refl
     go (refused refusal) e = zero-le
     go (shown head) e = let a = accepted o room db e in omega (arith, a .cells, a .fits)
 
+-- of a page that is opened the room is tested first, and only then its cells
+module _ (page : Page) (db : List ℕ) (o : Open) (e : openOf page db ≡ shown o) where
+  pub page-too-short : (room : ℕ) → room < o .cells → pageOf page room db ≡ pageAnswer (onPage page re.TableTooShort)
+  unfolding pageFor pageIn
+  page-too-short room h = rw (e, opened-lies o db (open-fits page db e), lt-ltb room (o .cells) h, open-page page db e)
+
+  pub page-long-enough : (room : ℕ) → o .cells ≤ room → pageOf page room db ≡ pageOf page (o .cells) db
+  unfolding pageFor pageIn
+  page-long-enough room h = rw (e, opened-lies o db (open-fits page db e), le-ltb room (o .cells) h, le-ltb (o .cells) (o .cells) (le-refl (o .cells)))
+
 -- ITS CELLS
+
+-- the entry of a cell of an opened page
+pub entry-opened : (o : Open) (db : List ℕ) (i : ℕ) → entryFor (oa.Shown o) db i ≡ entryBy o (locatedAnswer (locatedIn o i db))
+unfolding entryFor
+entry-opened o db i = refl
 
 -- a cell of a page, with the way to it
 pub record Cell (page : Page) (i : ℕ) (db : List ℕ) : Type 0 where

@@ -1,4 +1,7 @@
 -- The rows of a walk rise strictly: those of a refused one too, up to where it is refused.
+--
+-- The proof goes along the walk, clause by clause, and so unfolds its three functions, which stand in `trace`: a law for each clause
+-- would be the definition again.
 use Prim.Native.Nat.{ℕ, zero, suc, _+_}
 use mathlib.Core.Path.{_≡_, refl}
 use mathlib.Core.List.{List, [], _∷_}

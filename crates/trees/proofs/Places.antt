@@ -1,4 +1,7 @@
 -- Each row of a walk is a cell of a leaf that lies in the file: those of a refused one too.
+--
+-- The proof goes along the walk, clause by clause, and so unfolds its three functions, which stand in `trace`: a law for each clause
+-- would be the definition again.
 use Prim.Native.Nat.{ℕ, zero, suc, _+_, _<_}
 use mathlib.Core.Path.{_≡_, refl, sym, ap, _∙_}
 use mathlib.Core.List.{List}

@@ -1,4 +1,7 @@
 -- The pages that a walk comes to, and the visits that it has left, are as many as it had.
+--
+-- The proof goes along the walk, clause by clause, and so unfolds its three functions, which stand in `trace`: a law for each clause
+-- would be the definition again.
 use Prim.Native.Nat.{ℕ, zero, suc, _+_, _≤_}
 use mathlib.Core.Path.{_≡_, refl}
 use mathlib.Core.List.{List}

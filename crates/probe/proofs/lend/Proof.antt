@@ -2,6 +2,8 @@
 -- entries, which is lent for a lifetime that is made for the call and ended behind it. Then the row is the local's again,
 -- at the list that the page call left, and is copied out whole. The page call's share is all of it (`within-whole`). Of the page
 -- call it is known that it meets its contract.
+--
+-- A walk by hand computes: what it unfolds are parts of lists and the routine itself.
 use mathlib.Core.Path.{_≡_, refl, sym, _∙_, ap, subst}
 use Prim.Native.Nat.{ℕ}
 use mathlib.Core.List.{[], _∷_, List, map}

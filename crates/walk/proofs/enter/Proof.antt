@@ -1,4 +1,4 @@
--- The visits first, then the depth.
+-- The visits first, then the depth. What the function is to answer stands in `trace`, with no code, and is unfolded here as its own.
 use borrow.Author.Tests.{eq-eqb, ne-eqb}
 use Rattle.trace.specs.Table.{entered}
 use borrow.Author.Needs.{needs}

@@ -1,4 +1,4 @@
--- The page decides first, then its kind.
+-- The page decides first, then its kind. What the function is to answer stands in `trace`, with no code, and is unfolded here as its own.
 use mathlib.Core.Path.{sym, _∙_}
 use denote.Ref.{now}
 use Rattle.place.specs.Place.{filePage}

@@ -1,4 +1,5 @@
--- At each type the definition computes to the reader that the code calls.
+-- At each type the definition computes to the reader that the code calls. It stands in `manners` and is unfolded here: a law for each
+-- type would be its table again.
 use Prim.Native.Nat.{_+_}
 use mathlib.Core.Path.{_≡_, refl, sym, ap, _∙_}
 use native.Mathlib.Nat.{add-zero}
