@@ -3,6 +3,8 @@
 // A refusal knows its place. A `Flaw` is of the database as a whole, a `Reason` is told of a page, and what lies below a cell
 // answers a `Fault`, which knows its column and neither cell nor page; the opened page, which knows its number, puts them
 // together. docs/READINGS.md has the table of numbers.
+#![tactic(auto)]
+
 ghost use Rattle.std.specs.Prelude.{◌≡◌};
 ghost use Rattle.answers.specs.Numbers.{row, mark_number, flaw_number, reason_number, fault_row, numbers_of};
 

@@ -1,4 +1,6 @@
 // What a caller asks for and hands over by numbers: a reading, a page, a half of a table, a kind of page.
+#![tactic(auto)]
+
 ghost use Rattle.std.specs.Prelude.{◌≡◌, eqb};
 ghost use Rattle.asked.specs.Asked.{number_of, reading_by, page_by, share_by, kind_by};
 

@@ -3,6 +3,8 @@
 // A cell reader is handed the part of the page that begins at the cell's pointer and sees no offset. It reads straight
 // down: the numbers before the payload, how many bytes the payload has, the record in it, and what stands behind that.
 // From the file format, 1.6 "B-tree Pages", and the Rust's `_cell` functions.
+#![tactic(auto)]
+
 ghost use Rattle.std.specs.Prelude.{◌≡◌, ◌-◌, length, drop};
 ghost use Rattle.kinds.specs.Kind.{has_closing};
 ghost use Rattle.cell.specs.Numbers.{number_in, child_at, numbers_of, numbers_answer};

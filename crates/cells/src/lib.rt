@@ -2,6 +2,8 @@
 //
 // From the file format, 1.6 "B-tree Pages", and the Rust's four `_b_tree_page` functions. A cell is checked whole and by
 // itself, whatever the page's other cells are like.
+#![tactic(auto)]
+
 ghost use Rattle.std.specs.Prelude.{◌≡◌, ◌≤◌, ◌<◌};
 ghost use Rattle.answers.specs.declared.Refusal.TheVariants.{InCell};
 ghost use Rattle.page.specs.Head.{pointers_end};

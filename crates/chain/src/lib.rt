@@ -2,6 +2,8 @@
 //
 // From the file format, 1.7 "Cell Payload Overflow Pages"; how much stays on the page is in `kept`, the chain page by page in `links`. It is
 // followed to its end before a byte of it is copied, so that a buffer is left as it was where the chain is refused.
+#![tactic(auto)]
+
 ghost use Rattle.std.specs.Prelude.{◌≡◌, true, ◌+◌, ◌-◌, ◌≤◌, length, take};
 ghost use Rattle.answers.specs.declared.Refusal.TheVariants.{InCell};
 ghost use Rattle.chain.specs.declared.GatherAnswer.TheVariants.{Refused};

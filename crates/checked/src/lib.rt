@@ -2,6 +2,8 @@
 //
 // Both functions answer a number for every input. That they come to the columns of a checked row, one behind the other, is
 // what the laws say.
+#![tactic(auto)]
+
 ghost use Rattle.std.specs.Prelude.{◌≡◌};
 ghost use Rattle.varint.specs.Varint.{varint_of};
 ghost use Rattle.serial.specs.Serial.{width_of};

@@ -1,4 +1,6 @@
 // One of the three readings, as a caller chooses it: its pages, and their cells.
+#![tactic(auto)]
+
 ghost use Rattle.std.specs.Prelude.{◌≡◌};
 ghost use Rattle.page.specs.Open.{open_answer};
 ghost use Rattle.row.specs.Found.{found_by};

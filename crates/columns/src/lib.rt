@@ -3,6 +3,8 @@
 // A cursor says where the next type and its value stand in the bytes that it is handed. One that is opened on a checked cell
 // comes to each of its columns; any other is answered too, and no step reads or shows what lies outside the bytes. From the
 // file format, 2.1 "Record Format", and the Rust's `column_values`.
+#![tactic(auto)]
+
 ghost use Rattle.std.specs.Prelude.{◌≡◌, ◌+◌, ◌-◌, ◌≤◌, take, drop};
 ghost use Rattle.columns.specs.Columns.{end_in, passed, step_of, slot_of};
 

@@ -1,4 +1,6 @@
 // The rows of many databases in the file reading, to be held against SQLite by bin/sqlite.
+#![tactic(auto)]
+
 use reading::Reading;
 
 fn main() {

@@ -1,6 +1,8 @@
 // The page call on a lent table, as a run: the database on standard input, its first pages in both readings, and what
 // three places of the table hold behind each call. Places that a call does not fill keep what stood there, which prints
 // as an entry of kind 255.
+#![tactic(auto)]
+
 use libc::STDIN_FILENO;
 use place::Page;
 use table::PageAnswer;

@@ -3,6 +3,8 @@
 // Each function calls one of a reader and hands its answer on as a struct of numbers (`turns`). Nothing is decided here. The
 // values of a row are stored in a table that is lent (`filled`). include/shorgavel.h declares the calls. A slice is a pointer
 // that is not null and a length, also where it is empty. Pages count from 0 in the old reading and from 1 in the other two.
+#![tactic(auto)]
+
 ghost use Rattle.std.specs.Prelude.{◌≡◌, ◌/◌, length, eqb};
 ghost use Rattle.place.specs.Place.{file_page};
 ghost use Rattle.spilled.specs.Lent as lent;

@@ -4,6 +4,8 @@
 // leaves the rest. It is total: where the part ends early, the bytes that are there spell the number. So a field of one
 // to eight bytes is `be_u64` of a part that has just these bytes. From the Rust: be_i48.rs, and the numbers that it takes
 // from nom, under nom's names.
+#![tactic(auto)]
+
 ghost use Rattle.std.specs.Prelude.{◌≡◌, ◌*◌, ◌^◌, ◌≤◌, ◌<◌, length, get_or};
 ghost use Rattle.std.specs.Int.Signed.{mag};
 ghost use Rattle.fields.specs.Fields.{twos, unsigned, signed};

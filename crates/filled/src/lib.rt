@@ -1,5 +1,7 @@
 // A row with its values in a table that is lent. Its record was checked when it was found, so nothing is looked for twice (`whole`); what
 // is stored is what `run` stores, word by word.
+#![tactic(auto)]
+
 mod whole;
 
 ghost use Rattle.std.specs.Prelude.{◌≡◌, ◌/◌, length};

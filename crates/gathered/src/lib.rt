@@ -2,6 +2,8 @@
 //
 // A row is found by the plain readers and filled in by the plain steps, whether it lies on its page or in the buffer. Who has
 // many rows asks for each with no buffer first, by a shorter way, and comes here with those that are refused 18.
+#![tactic(auto)]
+
 ghost use Rattle.std.specs.Prelude.{◌≡◌, ◌/◌, length};
 ghost use Rattle.gathered.specs.Rows.{lent_in, row_from, table_from, row_lent, table_lent, buffer_lent};
 

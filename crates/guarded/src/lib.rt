@@ -3,6 +3,8 @@
 // A cell of a table leaf is read as the file reading has it and refused where its record has a mark; the old reading is
 // never run. That it agrees wherever a cell is shown is a theorem of `agreement`. Pages count from 1. A cursor goes on with
 // `row_values::file::next`.
+#![tactic(auto)]
+
 ghost use Rattle.std.specs.Prelude.{◌≡◌, ◌≤◌, length};
 ghost use Rattle.columns.specs.Columns.{types_at};
 ghost use Rattle.marks.specs.Marks.{lowest};

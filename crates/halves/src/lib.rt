@@ -2,6 +2,8 @@
 //
 // A half is rounded down, so that both are as long as each other and an odd last place is in neither. What a call may count on is
 // its share's room, and where it writes is from its share's start on: nothing else decides it.
+#![tactic(auto)]
+
 ghost use Rattle.std.specs.Prelude.{◌≡◌};
 ghost use Rattle.halves.specs.Halves.{start_of, room_of};
 

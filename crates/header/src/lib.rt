@@ -1,6 +1,8 @@
 // The database header: the checks that every call makes first, the fields, and the sizes of the pages.
 //
 // From the file format, 1.3 "The Database Header", and the Rust's `db_header`, whose names the fields keep.
+#![tactic(auto)]
+
 ghost use Rattle.std.specs.Prelude.{◌≡◌, ◌≤◌, ◌<◌, length, take};
 ghost use Rattle.answers.specs.Checks.{first};
 ghost use Rattle.header.specs.Header.{field_of, page_size_of, usable, end, alike, opening, file_checks, checked_of, reserved_in, fields_in, header_of, sizes_of};

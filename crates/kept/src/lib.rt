@@ -1,6 +1,8 @@
 // How much of a payload that spills stays on its page, and how many overflow pages hold the rest.
 //
 // From the file format, 1.6 "B-tree Pages" and 1.7 "Cell Payload Overflow Pages".
+#![tactic(auto)]
+
 ghost use Rattle.std.specs.Prelude.{◌≡◌, ◌/◌, ◌%◌};
 ghost use Rattle.kept.specs.Kept.{least_kept, kept_of, links_of};
 

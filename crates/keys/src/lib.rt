@@ -1,6 +1,8 @@
 // The row number or key of a cell, by itself: all that a walk over a table looks at in a leaf.
 //
 // From the file format, 1.6 "B-tree Pages": 64 bits of two's complement.
+#![tactic(auto)]
+
 ghost use Rattle.std.specs.Prelude.{◌≡◌};
 ghost use Rattle.keys.specs.Key.{key_in, key_answer};
 

@@ -1,4 +1,6 @@
 // The four kinds of b-tree page, and what a cell of each has: file format, 1.6 "B-tree Pages".
+#![tactic(auto)]
+
 ghost use Rattle.std.specs.Prelude.{◌≡◌, ◌-◌, ◌*◌, ◌/◌};
 ghost use Rattle.kinds.specs.Kind.{kind_byte, interior, is_leaf_table, has_size, has_row, has_closing, child_bytes, most_whole};
 

@@ -2,6 +2,8 @@
 //
 // Types of one byte each are gone along in a loop that looks at each of them once, and only for whether all is well; others by
 // the plain forms. From the file format, 2.1 "Record Format", as `record` and `marks` have it.
+#![tactic(auto)]
+
 ghost use Rattle.std.specs.Prelude.{◌≡◌, ◌≤◌, get_or};
 ghost use Rattle.laws.specs.Pick.{pick};
 ghost use Rattle.tables.specs.Tables.{widths};

@@ -4,6 +4,8 @@
 // `none`; a value by its kind, and then a decimal number, a real's 64 bits, or the bytes of a text or a blob, both in
 // hexadecimal. The kinds are `null`, `i:`, `r:`, `t:` and `b:` in the file reading, and the Rust's own in the old one,
 // whose widths they tell. A row without bytes has `-` in their place.
+#![tactic(auto)]
+
 mod shown;
 
 use print::{hex, number, text};

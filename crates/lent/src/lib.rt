@@ -3,6 +3,8 @@
 // The page is opened once. What the call answers is decided by `table::check_by`, which sees the share's room alone: so
 // nothing is written before every cell is known to be sound, and a page that is refused leaves the table as it was. Which places are
 // the share's is decided by `halves`: no other is written.
+#![tactic(auto)]
+
 ghost use Rattle.std.specs.Prelude.{◌≡◌, ◌+◌, ◌≤◌, length};
 ghost use Rattle.lent.specs.Call.{answer_of, left_of};
 ghost use Rattle.lent.specs.Filling.{filled_from};

@@ -6,6 +6,8 @@
 //
 // No contract can say what is read or written, and `run` answers nothing: it is proved safe and ending. What is printed is
 // made by the functions of the readers, of `print` and of `texts`, whose promises say all of it.
+#![tactic(auto)]
+
 mod old;
 
 use answers::{Flaw, Refusal};

@@ -2,6 +2,8 @@
 //
 // From the file format, 1.7 "Cell Payload Overflow Pages". A chain has as many pages as the payload's size says, so one that runs in
 // a circle ends too.
+#![tactic(auto)]
+
 ghost use Rattle.std.specs.Prelude.{◌≡◌};
 ghost use Rattle.links.specs.Links.{chain_of};
 ghost use Rattle.links.specs.Whole.{whole};

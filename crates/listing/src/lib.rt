@@ -2,6 +2,8 @@
 // table that both may trust the same.
 //
 // The second walk checks nothing again: that an accepted table has just these rows is proved of the first.
+#![tactic(auto)]
+
 ghost use Rattle.std.specs.Prelude.{◌≡◌, ◌+◌, ◌/◌, ◌≤◌, length};
 ghost use Rattle.std.proofs.lemmas.List.Edits.{sets};
 ghost use Rattle.standing.specs.Rows.{leaf_rows, all_rows};

@@ -1,4 +1,6 @@
 // How the readings differ in the values that they show, as numbers: one way of going through the types of a row serves both.
+#![tactic(auto)]
+
 ghost use Rattle.std.specs.Prelude.{◌≡◌};
 ghost use Rattle.manners.specs.Manners.{manner_of};
 

@@ -1,5 +1,7 @@
 // The guarded reading with a gather buffer lent. A spilled cell that the file reading accepts is refused with its lowest mark
 // of five, so whatever is shown lies in the database.
+#![tactic(auto)]
+
 ghost use Rattle.std.specs.Prelude.{◌≡◌, length};
 ghost use Rattle.marks.specs.Marks.{or_spilled};
 ghost use Rattle.row.specs.Found.{found_by};

@@ -2,6 +2,8 @@
 //
 // They are looked for in one pass over the types of a record that the file reading accepts, beside how many bytes its
 // other varints took. They are the first four of docs/READINGS.md; the fifth is of a payload that spills, which `marked` knows.
+#![tactic(auto)]
+
 ghost use Rattle.std.specs.Prelude.{◌≡◌};
 ghost use Rattle.record.specs.Types.{types_of};
 ghost use Rattle.marks.specs.Marks.{lowest_by, lowest, or_spilled};

@@ -1,5 +1,7 @@
 // Long notes, as a run: the database on standard input, and the note of each of three rows with a gather buffer lent, in the
 // file and the guarded reading. A short one lies on its page, a long one spills, and of the last one the chain is damaged.
+#![tactic(auto)]
+
 use answers::Refusal;
 use libc::STDIN_FILENO;
 use spilled::ValueAnswer;

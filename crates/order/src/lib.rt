@@ -2,6 +2,8 @@
 // page number and its varints are looked at.
 //
 // From the file format, 1.6 "B-tree Pages".
+#![tactic(auto)]
+
 ghost use Rattle.std.specs.Prelude.{◌≡◌};
 ghost use Rattle.answers.specs.declared.Fault.TheVariants.{OutOfOrder};
 ghost use Rattle.answers.specs.declared.Refusal.TheVariants.{InCell};

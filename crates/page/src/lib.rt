@@ -2,6 +2,8 @@
 //
 // From the file format, 1.6 "B-tree Pages", and the Rust's `page_generic`. The guarded reading asks for a page's kind between the
 // two steps.
+#![tactic(auto)]
+
 ghost use Rattle.std.specs.Prelude.{◌≡◌};
 ghost use Rattle.answers.specs.declared.Reason.TheVariants as re;
 ghost use Rattle.site.specs.Site.{on_page};

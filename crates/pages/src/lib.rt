@@ -1,5 +1,7 @@
 // What is answered of the database and its pages, by numbers: the header, the rows of a table, the head of a page, and a page that is
 // opened, there and back.
+#![tactic(auto)]
+
 ghost use Rattle.std.specs.Prelude.{◌≡◌};
 ghost use Rattle.pages.specs.Pages.{no_fields, header_by, pages_by, listed_by, no_head, head_by, unopened, opened_of, opening_by, open_by};
 

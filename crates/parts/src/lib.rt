@@ -1,5 +1,7 @@
 // Parts of the bytes that a caller lends, whatever place and length are asked for: what does not lie there is left out; and the
 // differences and bounds that go with them.
+#![tactic(auto)]
+
 ghost use Rattle.std.specs.Prelude.{◌≡◌, min, ◌-◌, take, drop};
 ghost use Rattle.parts.specs.Part.{part_of};
 

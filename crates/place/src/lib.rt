@@ -2,6 +2,8 @@
 //
 // From the file format, 1.2 "Pages", and the Rust's `get_page`. A page is named by its number as a reading counts, the Rust
 // from 0 and the format from 1, and is there if it lies wholly in the bytes and is one of those that the file has (`shape`).
+#![tactic(auto)]
+
 ghost use Rattle.std.specs.Prelude.{◌≡◌};
 ghost use Rattle.place.specs.Place.{old_page, file_page, header_at, place_from, place_of, page_at};
 

@@ -4,6 +4,8 @@
 // they are handed; those of `out` promise what they gather. What is written is made by functions whose contracts say what
 // they make: `magnitude`, `digit` and `spell` here, and the digits of `io`. A write that fails is not told, as a program has
 // no exit status to tell it by.
+#![tactic(auto)]
+
 pub mod out;
 
 ghost use Rattle.std.specs.Prelude.{◌≡◌, ◌*◌, ◌<◌, ◌≤◌, nat_abs, length, take};

@@ -1,5 +1,7 @@
 // The page call for a caller that has no table to lend, so that tests of it can be covered: one of eight blanks is lent, and a
 // place of it is shown.
+#![tactic(auto)]
+
 ghost use Rattle.std.specs.Prelude.{◌≡◌};
 ghost use Rattle.probe.specs.Probe.{returned_of, probe_of};
 // A page's answer may hold a refusal: the prover names each type that a value holds, and finds it by the crates that are named.

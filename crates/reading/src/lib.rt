@@ -2,6 +2,8 @@
 //
 // What differs between them and is a number is asked of here; what differs in kind has a function of its own where it
 // is read. The third reading, guarded, is the file reading of records without marks.
+#![tactic(auto)]
+
 ghost use Rattle.std.specs.Prelude.{◌≡◌};
 ghost use Rattle.reading.specs.Reading.{limit};
 

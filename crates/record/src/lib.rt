@@ -2,6 +2,8 @@
 //
 // A record reader is handed the bytes from the header size on (file: the payload; old: the rest of the page) and sees no
 // page. From the file format, 2.1 "Record Format", and the Rust's `column_types` to `table_cell_payload`.
+#![tactic(auto)]
+
 ghost use Rattle.std.specs.Prelude.{◌≡◌};
 ghost use Rattle.record.specs.Types.{types_of, ended, walk};
 ghost use Rattle.record.specs.Record.{headless, counted, old_judged, file_judged, fitted, record_of, answer_of};

@@ -2,6 +2,8 @@
 //
 // A call makes the header's checks and the page's, then checks the whole record of its cell, and no other cell. Its column count and
 // its row number are in `row_head`, its values in `row_values`.
+#![tactic(auto)]
+
 ghost use Rattle.std.specs.Prelude.{◌≡◌};
 ghost use Rattle.row.specs.Row.{cursor_by, cursor_of};
 ghost use Rattle.row.specs.Found.{cursor_for, Lying, found_by};

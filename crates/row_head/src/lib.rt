@@ -2,6 +2,8 @@
 //
 // A call makes the header's checks and the page's, then checks the whole record of its cell, and no other cell. On a page that the
 // page call accepts the calls answer what the cell's entry has: a theorem of `page_theorems`.
+#![tactic(auto)]
+
 ghost use Rattle.std.specs.Prelude.{◌≡◌};
 ghost use Rattle.row_head.specs.Head.{shortest_in, shortest_for, count_for, count_of, row_for, row_of};
 

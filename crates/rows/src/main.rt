@@ -4,6 +4,8 @@
 // The gate names a gauge's page on standard input and then, from data/: pages with reserved space, into which one cell is put and one
 // runs; the rows that were worked by hand; a page of 65,536 bytes, with a record of 64,000 columns; one byte more than is
 // taken; no bytes at all; and a header that the file reading refuses.
+#![tactic(auto)]
+
 use libc::STDIN_FILENO;
 
 fn main() {

@@ -1,4 +1,6 @@
 // The values of a row in a table that is lent: as many as it has places, from any cursor by the readers' own steps.
+#![tactic(auto)]
+
 ghost use Rattle.std.specs.Prelude.{◌≡◌, ◌/◌, length};
 ghost use Rattle.run.specs.Run.{run_from, filled_by, over};
 

@@ -3,6 +3,8 @@
 // The addresses of one screen lie on few pages and in few rows. A page stays open while the next address names it, and a row
 // stays found while the next address names its cell, so that header, page and record are checked once for all of them. An
 // address that is refused stops no other.
+#![tactic(auto)]
+
 mod lists;
 mod rows;
 

@@ -2,6 +2,8 @@
 //
 // From the file format, 2.1 "Record Format", and the Rust's `SerialType::size`, which panics where `Reserved` is
 // answered here.
+#![tactic(auto)]
+
 ghost use Rattle.std.specs.Prelude.{◌≡◌};
 ghost use Rattle.serial.specs.Serial.{width_of};
 

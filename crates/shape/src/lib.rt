@@ -3,6 +3,8 @@
 //
 // From the file format, 1.3.7 "In-header database size". In the file reading a file may have fewer pages than its bytes hold, or
 // more: its header states how many, and old pages behind the last are none of it.
+#![tactic(auto)]
+
 ghost use Rattle.std.specs.Prelude.{◌≡◌};
 ghost use Rattle.shape.specs.Shape.{whole_pages, stated, count_of, shape_of, shape_answer};
 

@@ -2,6 +2,8 @@
 //
 // From the file format, 1.6 "B-tree Pages": a varint may have zeros in front, and a writer leaves them out. From 2^56 on
 // a number takes nine bytes, the last of which has eight bits.
+#![tactic(auto)]
+
 ghost use Rattle.std.specs.Prelude.{◌≡◌, length};
 ghost use Rattle.shortest.specs.Shortest.{encode, shortest};
 

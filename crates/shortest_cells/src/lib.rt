@@ -1,4 +1,6 @@
 // Whether all varints that a reading took from a cell are in their shortest form, as SQLite and the gauge write them.
+#![tactic(auto)]
+
 ghost use Rattle.std.specs.Prelude.{◌≡◌};
 ghost use Rattle.record.specs.Types.{types_of};
 ghost use Rattle.shortest_cells.specs.Cells.{each_shortest, taken_shortest, told_shortest};

@@ -1,6 +1,8 @@
 // The first step of opening a page: where it lies, and its kind.
 //
 // From the file format, 1.6 "B-tree Pages", and the Rust's `page` and `root_page`.
+#![tactic(auto)]
+
 ghost use Rattle.std.specs.Prelude.{◌≡◌};
 ghost use Rattle.site.specs.Kinds.{kind_of, kind_at};
 ghost use Rattle.site.specs.Site.{on_page, site_from, site_of, site_answer};

@@ -1,4 +1,6 @@
 // Whether every cell of an opened page is accepted: what a page call asks before it writes. The first failing cell decides.
+#![tactic(auto)]
+
 ghost use Rattle.std.specs.Prelude.{◌≡◌};
 ghost use Rattle.sound.specs.Cells.{cells_from};
 

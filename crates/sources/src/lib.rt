@@ -1,4 +1,6 @@
 // What calls answer that are lent a gather buffer, as C has it: beside a value or a row, the bytes that its places count in.
+#![tactic(auto)]
+
 ghost use Rattle.std.specs.Prelude.{◌≡◌};
 ghost use Rattle.sources.specs.Lent.{source_of, lent_row, lent_shown};
 

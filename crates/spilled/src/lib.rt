@@ -3,6 +3,8 @@
 // A cell that is whole on its page is found there by `row`, and the buffer is left as it was. A spilled one is read by the
 // same record reader from other bytes. The guarded reading gives it a mark: `marked`. Texts and blobs are shown as
 // part of the database or as part of the buffer; an answer says which.
+#![tactic(auto)]
+
 ghost use Rattle.std.specs.Prelude.{◌≡◌, length};
 ghost use Rattle.place.specs.Place.{file_page};
 ghost use Rattle.cells.specs.Located.{located_in};

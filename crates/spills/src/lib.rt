@@ -1,5 +1,7 @@
 // Payloads that spill: which do, by the numbers of a cell or by what a call with no gather buffer was refused with; and the bytes that
 // a place counts in, where a buffer may hold them.
+#![tactic(auto)]
+
 ghost use Rattle.std.specs.Prelude.{◌≡◌};
 ghost use Rattle.parts.specs.Part.{part_of};
 ghost use Rattle.spills.specs.Spills.{spills_as, spills, bytes_in};

@@ -1,5 +1,7 @@
 // The rows that stand in a table, with no check of it: those of every leaf under its root, from left to right. An accepted walk
 // has just these, so what goes along a table behind the walk checks nothing again.
+#![tactic(auto)]
+
 ghost use Rattle.std.specs.Prelude.{◌≡◌};
 ghost use Rattle.cells.specs.Numbered.{numbers_in};
 ghost use Rattle.keys.specs.Key.{key_in};

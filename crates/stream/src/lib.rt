@@ -6,6 +6,8 @@
 //
 // No contract can say what is read or written, so the functions here promise nothing: each is proved safe and ending.
 // What is printed is made by the functions of the reader, whose promises say all of it.
+#![tactic(auto)]
+
 mod alone;
 mod along;
 mod file;

@@ -2,6 +2,8 @@
 //
 // From the file format, 1.6 "B-tree Pages", and the Rust's `page_generic`. The call itself, over a table that is lent, is in
 // `lent`: it opens its page once and hands the answer here.
+#![tactic(auto)]
+
 ghost use Rattle.std.specs.Prelude.{◌≡◌, get_or, length};
 ghost use Rattle.answers.specs.declared.Reason.{Reason};
 ghost use Rattle.site.specs.Site.{on_page};

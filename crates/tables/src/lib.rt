@@ -1,5 +1,7 @@
 // The constant tables of the file format, side by side. Code reads them by an index; the definitions read the same lists
 // (specs/Tables.antt).
+#![tactic(auto)]
+
 ghost use Rattle.std.specs.Prelude.{◌≡◌};
 
 // 2.1 "Record Format": the widths of serial types 0 to 9.

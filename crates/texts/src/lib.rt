@@ -1,5 +1,7 @@
 // A row in words, as the file reading shows it: its row number and its values, or the refusal. The guarded reading shows it in
 // the same words, and the old one its values.
+#![tactic(auto)]
+
 ghost use Rattle.std.specs.Prelude.{◌≡◌};
 ghost use Rattle.print.specs.Gathered.{gathered, puts};
 ghost use Rattle.texts.specs.Row.{value_text, values_text, row_text};

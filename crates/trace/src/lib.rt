@@ -1,5 +1,7 @@
 // A walk over a table, written down as it goes: what it is by the definitions, step by step, and what the code has of it. It has
 // types and no function; who walks is `walk`.
+#![tactic(auto)]
+
 use answers::Refusal;
 use order::Low;
 use page::Open;

@@ -1,6 +1,8 @@
 // Whether both may trust a whole table: the walk accepts it, and then each of its rows is one that the guarded reading shows.
 //
 // The rows are gone along once more behind the walk, with nothing of it checked again.
+#![tactic(auto)]
+
 ghost use Rattle.std.specs.Prelude.{◌≡◌};
 ghost use Rattle.trace.specs.declared.Table.TheVariants.{Leaf};
 ghost use Rattle.trace.specs.Table.{table_at};

@@ -4,6 +4,8 @@
 // as those of a gauge do. One pass looks at each of its types once, and only for whether all is well. Where it is not, or
 // the row is not usual, the plain form answers: every answer and every refusal is the plain form's, which is the definition
 // here. From the file format, 1.6 "B-tree Pages" and 2.1 "Record Format", as `cells`, `cell` and `record` have them.
+#![tactic(auto)]
+
 ghost use Rattle.std.specs.Prelude.{◌≡◌, true, ◌<◌, length};
 ghost use Rattle.kinds.specs.declared.Kind.TheVariants.{LeafTable};
 ghost use Rattle.page.specs.Open.{lies_in};

@@ -3,6 +3,8 @@
 // Each byte gives its low seven bits, and reading stops at the first byte whose top bit is clear; the ninth byte gives
 // all its eight bits and ends the number. From the file format, 1.6 "B-tree Pages", and the Rust's varint.rs, which
 // stops at five bytes: how many may be read is a parameter, and one function serves both readings.
+#![tactic(auto)]
+
 ghost use Rattle.std.specs.Prelude.{◌≡◌};
 ghost use Rattle.varint.specs.Varint.{varint_of};
 

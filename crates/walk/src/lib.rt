@@ -2,6 +2,8 @@
 // and the rows counted.
 //
 // From the file format, 1.6 "B-tree Pages". A walk is of the file reading.
+#![tactic(auto)]
+
 ghost use Rattle.std.specs.Prelude.{◌≡◌};
 ghost use Rattle.answers.specs.declared.Reason.TheVariants.{IndexPage};
 ghost use Rattle.trace.specs.Table.{no_table, table_by, table_at, entered, last_child};

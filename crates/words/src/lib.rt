@@ -3,6 +3,8 @@
 // A place holds a `turns::types::Value` or a `Shown` as C lays it out on x86-64: small fields share a word, and each other has one, by its
 // 64 bits. A table of words is lent in the stead of one of structs, for a store of a word is covered by the prover. A place is lent by
 // itself, so that no store can reach another; one that is too short is left as it was.
+#![tactic(auto)]
+
 ghost use Rattle.std.specs.Prelude.{◌≡◌, ◌*◌, ◌/◌, ◌^◌, ◌<◌};
 ghost use Rattle.turns.specs.Words.{words_of, refused_words, shown_words, value_at};
 ghost use Rattle.words.specs.Laid.{laid_in};
