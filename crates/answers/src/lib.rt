@@ -9,7 +9,7 @@ ghost use Rattle.std.specs.Prelude.{◌≡◌};
 ghost use Rattle.answers.specs.Numbers.{row, mark_number, flaw_number, reason_number, fault_row, numbers_of};
 
 // Pages are counted as the call that is refused counts them.
-#[derive(Drop)]
+#[derive(Clone, Copy)]
 pub enum Refusal {
     OfDatabase(Flaw),
     OnPage {
@@ -24,7 +24,7 @@ pub enum Refusal {
 }
 
 // Why nothing of a database is read.
-#[derive(Drop)]
+#[derive(Clone, Copy)]
 pub enum Flaw {
     OverLimit,
     OpeningDiffers,
@@ -37,7 +37,7 @@ pub enum Flaw {
 }
 
 // Why a call is refused on a page, before it comes to a cell, or because what it asks for is not there.
-#[derive(Drop)]
+#[derive(Clone, Copy)]
 pub enum Reason {
     PageAbsent,
     RootTooSmall,
@@ -55,14 +55,14 @@ pub enum Reason {
 }
 
 // What a run of checks comes to.
-#[derive(Drop)]
+#[derive(Clone, Copy)]
 pub enum Checked {
     Passed,
     Failed(Flaw),
 }
 
 // What is wrong with a cell.
-#[derive(Drop)]
+#[derive(Clone, Copy)]
 pub enum Fault {
     PointerOutside,
     CellCut,
@@ -82,7 +82,7 @@ pub enum Fault {
 }
 
 // Why the old reading need not show what the file reading shows of a record.
-#[derive(Drop)]
+#[derive(Clone, Copy)]
 pub enum Mark {
     // A varint over five bytes.
     LongVarint,
@@ -97,7 +97,7 @@ pub enum Mark {
 }
 
 // A refusal as it is printed and exported. What does not apply is 0.
-#[derive(Drop)]
+#[derive(Clone, Copy)]
 pub struct Numbers {
     pub number: u8,
     pub page: u32,

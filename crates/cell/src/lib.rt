@@ -18,7 +18,7 @@ use record::RecordAnswer;
 use varint::{Number, Varint};
 
 // The numbers before a cell's payload. What its kind lacks is 0, in no bytes.
-#[derive(Drop)]
+#[derive(Clone, Copy)]
 pub struct Numbers {
     pub child: u32,
     pub size: Number,
@@ -28,21 +28,21 @@ pub struct Numbers {
     pub length: usize,
 }
 
-#[derive(Drop)]
+#[derive(Clone, Copy)]
 pub enum NumbersAnswer {
     Read(Numbers),
     Cut,
 }
 
 // How many bytes are a cell's payload.
-#[derive(Drop)]
+#[derive(Clone, Copy)]
 pub enum Payload {
     Whole(usize),
     Faulty(Fault),
 }
 
 // A cell that is accepted. What its kind lacks is 0, in no bytes.
-#[derive(Drop)]
+#[derive(Clone, Copy)]
 pub struct Cell {
     pub numbers: Numbers,
     // How many bytes its payload has, which begins behind the numbers.
@@ -55,7 +55,7 @@ pub struct Cell {
     pub row: Number,
 }
 
-#[derive(Drop)]
+#[derive(Clone, Copy)]
 pub enum CellAnswer {
     Shown(Cell),
     Faulty(Fault),

@@ -22,20 +22,20 @@ use place::Page;
 use reading::Reading;
 
 // A cell with its pointer. Its page is with the caller, who handed it in.
-#[derive(Drop)]
+#[derive(Clone, Copy)]
 pub struct Located {
     pub pointer: u32,
     pub cell: Cell,
 }
 
-#[derive(Drop)]
+#[derive(Clone, Copy)]
 pub enum LocatedAnswer {
     Shown(Located),
     Refused(Refusal),
 }
 
 // The numbers alone of a cell.
-#[derive(Drop)]
+#[derive(Clone, Copy)]
 pub enum NumberedAnswer {
     Shown(Numbers),
     Refused(Refusal),

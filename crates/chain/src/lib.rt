@@ -24,7 +24,7 @@ use reading::Reading;
 use shape::{Shape, ShapeAnswer};
 use varint::Number;
 
-#[derive(Drop)]
+#[derive(Clone, Copy)]
 pub enum GatherAnswer {
     // The numbers of the cell, and how many bytes its payload has.
     Gathered { numbers: Numbers, size: usize },

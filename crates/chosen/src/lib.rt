@@ -10,7 +10,7 @@ use page::{Open, OpenAnswer};
 use reading::Reading;
 use row::FoundAnswer;
 
-#[derive(Drop)]
+#[derive(Clone, Copy)]
 pub enum Chosen {
     Old,
     File,

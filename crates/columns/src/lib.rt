@@ -12,7 +12,7 @@ use reading::Reading;
 use serial::Width;
 use varint::{Number, Varint};
 
-#[derive(Drop)]
+#[derive(Clone, Copy)]
 pub struct Cursor {
     pub reading: Reading,
     // Where the next type stands, and where the types end.
@@ -23,7 +23,7 @@ pub struct Cursor {
     pub end: usize,
 }
 
-#[derive(Drop)]
+#[derive(Clone, Copy)]
 pub enum Stepped {
     // The column's serial type, where its value stands, and the cursor behind it.
     Column {
@@ -34,7 +34,7 @@ pub enum Stepped {
     Done,
 }
 
-#[derive(Drop)]
+#[derive(Clone, Copy)]
 pub enum Slot {
     // The column's serial type, and where its value stands.
     Found { serial: u64, at: usize },

@@ -7,7 +7,7 @@
 ghost use Rattle.std.specs.Prelude.{◌≡◌};
 ghost use Rattle.halves.specs.Halves.{start_of, room_of};
 
-#[derive(Drop)]
+#[derive(Clone, Copy)]
 pub enum Share {
     Whole,
     First,

@@ -18,7 +18,7 @@ const OPENING: [u8; 16] = *b"SQLite format 3\0";
 
 // A caller in C has it as it is.
 #[repr(C)]
-#[derive(Drop)]
+#[derive(Clone, Copy)]
 pub struct Header {
     // By its meaning: 65,536 where the field has 1.
     pub page_size: u32,
@@ -45,14 +45,14 @@ pub struct Header {
     pub sqlite_version_number: u32,
 }
 
-#[derive(Drop)]
+#[derive(Clone, Copy)]
 pub enum HeaderAnswer {
     Shown(Header),
     Refused(Flaw),
 }
 
 // What the layers below the header know of it.
-#[derive(Drop)]
+#[derive(Clone, Copy)]
 pub struct Sizes {
     pub page_size: u32,
     // Where the cells of a page end: its size, or in the file reading that less the reserved space.
@@ -63,7 +63,7 @@ pub struct Sizes {
     pub version_valid_for_no: u32,
 }
 
-#[derive(Drop)]
+#[derive(Clone, Copy)]
 pub enum SizesAnswer {
     Shown(Sizes),
     Refused(Flaw),

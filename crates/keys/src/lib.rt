@@ -11,7 +11,7 @@ use cells::NumberedAnswer;
 use page::Open;
 use varint::Number;
 
-#[derive(Drop)]
+#[derive(Clone, Copy)]
 pub enum KeyAnswer {
     Shown(i64),
     Refused(Refusal),

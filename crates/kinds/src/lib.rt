@@ -7,7 +7,7 @@ ghost use Rattle.kinds.specs.Kind.{kind_byte, interior, is_leaf_table, has_size,
 use parts::less;
 use reading::Reading;
 
-#[derive(Drop)]
+#[derive(Clone, Copy)]
 pub enum Kind {
     InteriorIndex,
     InteriorTable,

@@ -15,14 +15,14 @@ use marks::Marking;
 use reading::Reading;
 
 // How many bytes the value of a type takes.
-#[derive(Drop)]
+#[derive(Clone, Copy)]
 enum Width {
     Bytes(u64),
     Other,
 }
 
 // How many columns there are, and how many bytes their values leave over.
-#[derive(Drop)]
+#[derive(Clone, Copy)]
 pub enum Layout {
     Fits { columns: usize, left: u64 },
     Other,

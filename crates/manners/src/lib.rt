@@ -7,7 +7,7 @@ ghost use Rattle.manners.specs.Manners.{manner_of};
 use reading::Reading;
 
 // How the readings differ in values: the widths of integers, what type 9 shows, and the first type that shows bytes.
-#[derive(Drop)]
+#[derive(Clone, Copy)]
 pub struct Manner {
     pub i8: u8,
     pub i16: u8,

@@ -11,7 +11,7 @@ ghost use Rattle.marks.specs.Marks.{lowest_by, lowest, or_spilled};
 use answers::Mark;
 use varint::Varint;
 
-#[derive(Drop)]
+#[derive(Clone, Copy)]
 pub enum Marking {
     Clear,
     // The lowest mark.

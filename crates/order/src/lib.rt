@@ -17,14 +17,14 @@ use place::Page;
 use varint::Number;
 
 // What every number that follows must exceed.
-#[derive(Drop)]
+#[derive(Clone, Copy)]
 pub enum Low {
     Any,
     Above(i64),
 }
 
 // What an interior cell leads to.
-#[derive(Drop)]
+#[derive(Clone, Copy)]
 pub enum Down {
     To { child: u32, key: i64 },
     Refused(Refusal),

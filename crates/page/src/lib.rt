@@ -17,7 +17,7 @@ use place::Page;
 use site::{Site, SiteAnswer};
 
 // A page whose head and pointers are there too.
-#[derive(Drop)]
+#[derive(Clone, Copy)]
 pub struct Open {
     pub page: Page,
     pub at: usize,
@@ -28,7 +28,7 @@ pub struct Open {
     pub cells: usize,
 }
 
-#[derive(Drop)]
+#[derive(Clone, Copy)]
 pub enum OpenAnswer {
     Shown(Open),
     Refused(Refusal),

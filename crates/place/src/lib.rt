@@ -11,14 +11,14 @@ use reading::Reading;
 use shape::Shape;
 
 // A page by its number, as its reading counts.
-#[derive(Drop)]
+#[derive(Clone, Copy)]
 pub struct Page {
     pub reading: Reading,
     pub number: u32,
 }
 
 // Where a page lies in the bytes, and where its header stands in it.
-#[derive(Drop)]
+#[derive(Clone, Copy)]
 pub enum Place {
     At { at: usize, from: usize },
     Absent,

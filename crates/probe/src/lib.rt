@@ -11,14 +11,14 @@ use place::Page;
 use table::{Entry, PageAnswer};
 
 // What `probe` answers: a page call's own answer, and one place of the table that was lent.
-#[derive(Drop)]
+#[derive(Clone, Copy)]
 pub struct Probed {
     pub answer: PageAnswer,
     pub entry: Entry,
 }
 
 // A page call's answer, with the table that was lent to it.
-#[derive(Drop)]
+#[derive(Clone, Copy)]
 struct Returned {
     answer: PageAnswer,
     table: [Entry; 8],

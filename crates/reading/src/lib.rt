@@ -7,7 +7,7 @@
 ghost use Rattle.std.specs.Prelude.{◌≡◌};
 ghost use Rattle.reading.specs.Reading.{limit};
 
-#[derive(Drop)]
+#[derive(Clone, Copy)]
 pub enum Reading {
     Old,
     File,

@@ -14,7 +14,7 @@ use serial::Width;
 use varint::{Number, Varint};
 
 // How the values of a header's types lie in the bytes behind it: columns, and bytes left over.
-#[derive(Drop)]
+#[derive(Clone, Copy)]
 pub enum Laid {
     Ends { columns: usize, left: u64 },
     // A varint with no end stands behind the last type.
@@ -23,14 +23,14 @@ pub enum Laid {
     Passes { column: usize },
 }
 
-#[derive(Drop)]
+#[derive(Clone, Copy)]
 pub enum Fit {
     Fits { columns: usize, left: u64 },
     Unfit(Fault),
 }
 
 // A record that is accepted.
-#[derive(Drop)]
+#[derive(Clone, Copy)]
 pub struct Record {
     // The header's size, and the bytes that it took.
     pub header: Number,
@@ -41,7 +41,7 @@ pub struct Record {
     pub left: u64,
 }
 
-#[derive(Drop)]
+#[derive(Clone, Copy)]
 pub enum RecordAnswer {
     Whole(Record),
     Faulty(Fault),

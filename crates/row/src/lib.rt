@@ -20,26 +20,26 @@ use reading::Reading;
 use varint::Number;
 
 // A cell that was checked, with its page and the cursor before its first column.
-#[derive(Drop)]
+#[derive(Clone, Copy)]
 pub struct FoundCell {
     pub page: Page,
     pub cell: Cell,
     pub cursor: Cursor,
 }
 
-#[derive(Drop)]
+#[derive(Clone, Copy)]
 pub enum FoundAnswer {
     Shown(FoundCell),
     Refused(Refusal),
 }
 
-#[derive(Drop)]
+#[derive(Clone, Copy)]
 pub enum CursorAnswer {
     Shown(Cursor),
     Refused(Refusal),
 }
 
-#[derive(Drop)]
+#[derive(Clone, Copy)]
 pub enum ColumnAnswer {
     // The column's serial type, and where its value stands.
     Shown { serial: u64, at: usize },

@@ -15,13 +15,13 @@ use reading::Reading;
 use row::{FoundAnswer, FoundCell};
 use varint::Number;
 
-#[derive(Drop)]
+#[derive(Clone, Copy)]
 pub enum CountAnswer {
     Shown { columns: usize, shortest: bool },
     Refused(Refusal),
 }
 
-#[derive(Drop)]
+#[derive(Clone, Copy)]
 pub enum RowNumberAnswer {
     Shown { number: i64, shortest: bool },
     Refused(Refusal),

@@ -7,13 +7,13 @@ use columns::{Cursor, Stepped};
 use row::ColumnAnswer;
 use values::file::{Value, value_of};
 
-#[derive(Drop)]
+#[derive(Clone, Copy)]
 pub enum ValueAnswer {
     Shown(Value),
     Refused(Refusal),
 }
 
-#[derive(Drop)]
+#[derive(Clone, Copy)]
 pub enum NextAnswer {
     // The value at a cursor, and the cursor behind it.
     Column { value: Value, next: Cursor },

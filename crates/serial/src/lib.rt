@@ -9,7 +9,7 @@ ghost use Rattle.serial.specs.Serial.{width_of};
 
 use tables::{WIDTHS, wide};
 
-#[derive(Drop)]
+#[derive(Clone, Copy)]
 pub enum Width {
     Bytes(u64),
     // Types 10 and 11, which no value has.

@@ -14,7 +14,7 @@ use parts::least;
 use reading::Reading;
 
 // What the pages of a file have in common.
-#[derive(Drop)]
+#[derive(Clone, Copy)]
 pub struct Shape {
     pub page_size: u32,
     // Where the cells of a page end: its size, or in the file reading that less the reserved space.
@@ -25,7 +25,7 @@ pub struct Shape {
     pub present: usize,
 }
 
-#[derive(Drop)]
+#[derive(Clone, Copy)]
 pub enum ShapeAnswer {
     Shown(Shape),
     Refused(Flaw),

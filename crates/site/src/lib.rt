@@ -13,14 +13,14 @@ use place::{Page, Place};
 use reading::Reading;
 use shape::{Shape, ShapeAnswer};
 
-#[derive(Drop)]
+#[derive(Clone, Copy)]
 pub enum KindAnswer {
     Known(Kind),
     Unknown,
 }
 
 // A page that is there, with its kind.
-#[derive(Drop)]
+#[derive(Clone, Copy)]
 pub struct Site {
     pub page: Page,
     // Where the page lies, and its size.
@@ -33,7 +33,7 @@ pub struct Site {
     pub kind: Kind,
 }
 
-#[derive(Drop)]
+#[derive(Clone, Copy)]
 pub enum SiteAnswer {
     Shown(Site),
     Refused(Refusal),

@@ -8,7 +8,7 @@ use answers::Refusal;
 use cells::LocatedAnswer;
 use page::Open;
 
-#[derive(Drop)]
+#[derive(Clone, Copy)]
 pub enum CellsAnswer {
     Sound,
     Refused(Refusal),

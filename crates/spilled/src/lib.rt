@@ -27,14 +27,14 @@ use spills::Source;
 use values::file::Value;
 use varint::Number;
 
-#[derive(Drop)]
+#[derive(Clone, Copy)]
 pub enum LentAnswer {
     // The cell, and the bytes that its cursor counts in.
     Shown { found: FoundCell, source: Source },
     Refused(Refusal),
 }
 
-#[derive(Drop)]
+#[derive(Clone, Copy)]
 pub enum ValueAnswer {
     // The value, and the bytes that the place of a text or a blob counts in.
     Shown { value: Value, source: Source },

@@ -14,7 +14,7 @@ use place::Page;
 use reading::Reading;
 
 // The bytes that a place counts in.
-#[derive(Drop)]
+#[derive(Clone, Copy)]
 pub enum Source {
     Database,
     Buffer,

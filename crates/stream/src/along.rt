@@ -6,7 +6,7 @@ use print::out::text;
 use row::CursorAnswer;
 
 // How many bytes wait behind a value, and the cursor behind it.
-#[derive(Drop)]
+#[derive(Clone, Copy)]
 pub enum Went {
     On { at: usize, next: Cursor },
     Nowhere(usize),

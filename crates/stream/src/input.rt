@@ -2,7 +2,7 @@
 use libc::STDIN_FILENO;
 
 // What the stream has next.
-#[derive(Drop)]
+#[derive(Clone, Copy)]
 pub enum Next {
     End,
     // It ends within a length or a database.

@@ -22,7 +22,7 @@ use reading::Reading;
 use telling::Telling;
 
 // How many bytes wait in the buffer, and whether the stream goes on.
-#[derive(Drop)]
+#[derive(Clone, Copy)]
 struct Turn {
     at: usize,
     more: bool,

@@ -2,7 +2,7 @@
 use answers::Numbers;
 use print::out;
 
-#[derive(Drop)]
+#[derive(Clone, Copy)]
 pub enum Telling {
     Numbers,
     Word,

@@ -25,7 +25,7 @@ use varint::Number;
 
 // A caller in C has it as it is.
 #[repr(C)]
-#[derive(Drop)]
+#[derive(Clone, Copy)]
 pub struct Head {
     pub kind: u8,
     // 0: none.
@@ -71,7 +71,7 @@ fn head_of(header: &[u8], opened: Open) -> Head
 
 // A PAGE WITH ALL ITS CELLS
 
-#[derive(Drop)]
+#[derive(Clone, Copy)]
 pub enum PageAnswer {
     Shown(Head),
     Refused(Refusal),
@@ -137,7 +137,7 @@ pub fn written_of(answer: PageAnswer) -> usize
 
 // A caller in C has it as it is.
 #[repr(C)]
-#[derive(Drop)]
+#[derive(Clone, Copy)]
 pub struct Entry {
     pub kind: u8,
     pub pointer: u32,

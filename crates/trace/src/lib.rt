@@ -6,21 +6,21 @@ use answers::Refusal;
 use order::Low;
 use page::Open;
 
-#[derive(Drop)]
+#[derive(Clone, Copy)]
 pub struct State {
     // Pages that may still be visited.
     pub visits: usize,
     pub low: Low,
 }
 
-#[derive(Drop)]
+#[derive(Clone, Copy)]
 pub enum Walked {
     Refused(Refusal),
     Done { state: State, count: usize },
 }
 
 // A page of a table, opened.
-#[derive(Drop)]
+#[derive(Clone, Copy)]
 pub enum Table {
     Leaf(Open),
     Interior(Open),

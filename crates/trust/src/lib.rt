@@ -16,13 +16,13 @@ use trace::Table;
 use walk::CountAnswer;
 
 // The first row that the guarded reading refuses.
-#[derive(Drop)]
+#[derive(Clone, Copy)]
 pub enum First {
     None,
     Refused(Refusal),
 }
 
-#[derive(Drop)]
+#[derive(Clone, Copy)]
 pub enum Trust {
     // The walk's refusal.
     Refused(Refusal),

@@ -3,7 +3,7 @@ use table::Head;
 
 // A refusal by its numbers; number 0: nothing is refused.
 #[repr(C)]
-#[derive(Drop)]
+#[derive(Clone, Copy)]
 pub struct Refused {
     pub number: u8,
     pub mark: u8,
@@ -15,7 +15,7 @@ pub struct Refused {
 // THE DATABASE AND ITS PAGES
 
 #[repr(C)]
-#[derive(Drop)]
+#[derive(Clone, Copy)]
 pub struct Header {
     pub refused: Refused,
     pub fields: header::Header,
@@ -23,7 +23,7 @@ pub struct Header {
 
 // How many pages there are, and how many of them are wholly in the bytes.
 #[repr(C)]
-#[derive(Drop)]
+#[derive(Clone, Copy)]
 pub struct Pages {
     pub refused: Refused,
     pub count: usize,
@@ -32,7 +32,7 @@ pub struct Pages {
 
 // How many rows a table has.
 #[repr(C)]
-#[derive(Drop)]
+#[derive(Clone, Copy)]
 pub struct Listed {
     pub refused: Refused,
     pub count: usize,
@@ -40,7 +40,7 @@ pub struct Listed {
 
 // The head of a page whose cells are all accepted.
 #[repr(C)]
-#[derive(Drop)]
+#[derive(Clone, Copy)]
 pub struct PageHead {
     pub refused: Refused,
     pub head: Head,
@@ -48,7 +48,7 @@ pub struct PageHead {
 
 // A page that is opened: `page::Open`, its reading and its kind by number.
 #[repr(C)]
-#[derive(Drop)]
+#[derive(Clone, Copy)]
 pub struct Opened {
     // 0: old, 2: guarded; any other number: file.
     pub reading: u8,
@@ -64,7 +64,7 @@ pub struct Opened {
 }
 
 #[repr(C)]
-#[derive(Drop)]
+#[derive(Clone, Copy)]
 pub struct Opening {
     pub refused: Refused,
     pub opened: Opened,
@@ -74,7 +74,7 @@ pub struct Opening {
 
 // A cursor along a row: `columns::Cursor` of the reading whose call it is handed to.
 #[repr(C)]
-#[derive(Drop)]
+#[derive(Clone, Copy)]
 pub struct Along {
     pub at: usize,
     pub stop: usize,
@@ -84,7 +84,7 @@ pub struct Along {
 
 // A cell: its row number, its column count and the cursor before its first column.
 #[repr(C)]
-#[derive(Drop)]
+#[derive(Clone, Copy)]
 pub struct Cell {
     pub refused: Refused,
     pub row: i64,
@@ -95,7 +95,7 @@ pub struct Cell {
 }
 
 #[repr(C)]
-#[derive(Drop)]
+#[derive(Clone, Copy)]
 pub struct Value {
     // 0: null, 1: an integer, 2: a real, 3: a text, 4: a blob.
     pub kind: u8,
@@ -111,7 +111,7 @@ pub struct Value {
 
 // The value of a column, or why there is none.
 #[repr(C)]
-#[derive(Drop)]
+#[derive(Clone, Copy)]
 pub struct Shown {
     pub refused: Refused,
     pub value: Value,
@@ -119,7 +119,7 @@ pub struct Shown {
 
 // How many answers a list was filled with.
 #[repr(C)]
-#[derive(Drop)]
+#[derive(Clone, Copy)]
 pub struct Screened {
     pub refused: Refused,
     pub count: usize,
@@ -127,7 +127,7 @@ pub struct Screened {
 
 // How many values a table was filled with, and the cursor behind the last.
 #[repr(C)]
-#[derive(Drop)]
+#[derive(Clone, Copy)]
 pub struct Filled {
     pub count: usize,
     pub along: Along,
@@ -135,7 +135,7 @@ pub struct Filled {
 
 // A row: its number, its column count, how many of its values the table was filled with, and the cursor behind the last.
 #[repr(C)]
-#[derive(Drop)]
+#[derive(Clone, Copy)]
 pub struct Row {
     pub refused: Refused,
     pub number: i64,
@@ -148,7 +148,7 @@ pub struct Row {
 
 // A value, and the bytes that the place of a text or a blob counts in: 0 is the database's, 1 the buffer's.
 #[repr(C)]
-#[derive(Drop)]
+#[derive(Clone, Copy)]
 pub struct LentValue {
     pub refused: Refused,
     pub value: Value,
@@ -157,7 +157,7 @@ pub struct LentValue {
 
 // A row, and the bytes that its cursor and the places of its values count in.
 #[repr(C)]
-#[derive(Drop)]
+#[derive(Clone, Copy)]
 pub struct LentRow {
     pub row: Row,
     pub source: u8,

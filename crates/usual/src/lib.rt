@@ -23,7 +23,7 @@ use row::FoundAnswer;
 use varint::Varint;
 
 // A row: its number, its column count, and the cursor before its first column.
-#[derive(Drop)]
+#[derive(Clone, Copy)]
 pub enum RowAnswer {
     Shown {
         number: u64,
@@ -36,14 +36,14 @@ pub enum RowAnswer {
 // WHAT THE SHORT WAY SAYS of a stage; nothing, where it is not usual or not well
 
 // The header size of a record, and its columns.
-#[derive(Drop)]
+#[derive(Clone, Copy)]
 enum Header {
     Size { size: usize, columns: usize },
     Other,
 }
 
 // A row in its part of the page: where its payload begins, and how many bytes it takes.
-#[derive(Drop)]
+#[derive(Clone, Copy)]
 struct Span {
     number: u64,
     columns: usize,
@@ -52,13 +52,13 @@ struct Span {
     header: usize,
 }
 
-#[derive(Drop)]
+#[derive(Clone, Copy)]
 enum Row {
     At(Span),
     Other,
 }
 
-#[derive(Drop)]
+#[derive(Clone, Copy)]
 enum Found {
     Row {
         number: u64,

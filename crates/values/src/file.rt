@@ -5,7 +5,7 @@ ghost use Rattle.values.specs.File.{long_of, value_of};
 use crate::real::number_of;
 use fields::{be_i8, be_i16, be_i24, be_i32, be_i48, be_i64, be_u64};
 
-#[derive(Drop)]
+#[derive(Clone, Copy)]
 pub enum Value {
     Null,
     Integer(i64),

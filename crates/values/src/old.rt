@@ -6,7 +6,7 @@ use crate::real::number_of;
 use fields::{be_i8, be_i16, be_i24, be_i32, be_i48, be_i64, be_u64};
 
 // The Rust's `Option<Payload>`.
-#[derive(Drop)]
+#[derive(Clone, Copy)]
 pub enum Value {
     Null,
     I8(i8),

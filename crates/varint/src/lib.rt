@@ -9,20 +9,20 @@ ghost use Rattle.std.specs.Prelude.{◌≡◌};
 ghost use Rattle.varint.specs.Varint.{varint_of};
 
 // A number, and how many bytes it took.
-#[derive(Drop)]
+#[derive(Clone, Copy)]
 pub struct Number {
     pub value: u64,
     pub length: usize,
 }
 
-#[derive(Drop)]
+#[derive(Clone, Copy)]
 pub enum Varint {
     Value(Number),
     // No number.
     Unfinished(Cause),
 }
 
-#[derive(Drop)]
+#[derive(Clone, Copy)]
 pub enum Cause {
     // The bytes end before the number does.
     CutShort,

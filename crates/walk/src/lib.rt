@@ -25,7 +25,7 @@ use trace::{State, Table, Walked};
 pub const DEPTH: usize = 20;
 
 // How many rows a table has.
-#[derive(Drop)]
+#[derive(Clone, Copy)]
 pub enum CountAnswer {
     Shown(usize),
     Refused(Refusal),
