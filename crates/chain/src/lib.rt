@@ -43,8 +43,9 @@ fn lay_by(bytes: &[u8], mut way: [u8; 65_536], at: usize, buffer: &mut [u8])
     requires { (length bytes.now ≤ 65536) × (at + length bytes.now ≤ length buffer.old) }
     ensures { buffer.new ≡ laid_at at bytes.now buffer.old }
 {
-    let n = bytes::copy(bytes, &mut way);
-    bytes::copy(&way[0..n], &mut buffer[at..]);
+    let n = bytes.len();
+    way[..n].copy_from_slice(bytes);
+    buffer[at..at + n].copy_from_slice(&way[..n]);
 }
 
 // The same of any bytes. No page has more than the array.
@@ -56,7 +57,7 @@ fn lay(bytes: &[u8], at: usize, buffer: &mut [u8])
         lay_by(bytes, [0; 65_536], at, buffer);
         return;
     }
-    bytes::copy(bytes, &mut buffer[at..]);
+    buffer[at..at + bytes.len()].copy_from_slice(bytes);
 }
 
 // Copies the content of a chain behind the first `at` bytes of a buffer, up to `size` bytes of it.

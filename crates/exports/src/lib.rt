@@ -1,4 +1,4 @@
-// Every public call for C and Rust: a turn of types and nothing more.
+// Every public call for C and Rust: a turn of types and nothing more. `exports_c` hands them out under their names.
 //
 // Each function calls one of a reader and hands its answer on as a struct of numbers (`turns`). Nothing is decided here. The
 // values of a row are stored in a table that is lent (`filled`). include/shorgavel.h declares the calls. A slice is a pointer
@@ -31,24 +31,21 @@ use turns::{rows, shown};
 
 // THE DATABASE AND ITS PAGES, by the number of the reading: 0 is old, any other number file
 
-#[unsafe(no_mangle)]
-pub extern "C" fn shorgavel_header(db: &[u8], reading: u8) -> Header
+pub fn shorgavel_header(db: &[u8], reading: u8) -> Header
     ensures { result ≡ header_of reading db.now }
 {
     pages::header_by(header::header_of(db, asked::reading_of(reading)))
 }
 
 // How many pages there are, behind the header's checks.
-#[unsafe(no_mangle)]
-pub extern "C" fn shorgavel_pages(db: &[u8], reading: u8) -> Pages
+pub fn shorgavel_pages(db: &[u8], reading: u8) -> Pages
     ensures { result ≡ pages_of reading db.now }
 {
     pages::pages_by(shape::shape_of(db, asked::reading_of(reading)))
 }
 
 // The head of a page, every cell of which is checked. No page has more cells than the room that is named here.
-#[unsafe(no_mangle)]
-pub extern "C" fn shorgavel_page(db: &[u8], reading: u8, number: u32) -> PageHead
+pub fn shorgavel_page(db: &[u8], reading: u8, number: u32) -> PageHead
     ensures { result ≡ head_of reading number 65536 db.now }
 {
     pages::head_by(table::check_page(db, asked::page_of(reading, number), 65_536))
@@ -56,8 +53,7 @@ pub extern "C" fn shorgavel_page(db: &[u8], reading: u8, number: u32) -> PageHea
 
 // The page call: the same, and the entries of the cells in the table that is lent. As many are written as the head counts,
 // none on a refusal; a table with less room is refused.
-#[unsafe(no_mangle)]
-pub extern "C" fn shorgavel_entries(
+pub fn shorgavel_entries(
     db: &[u8],
     reading: u8,
     number: u32,
@@ -71,8 +67,7 @@ pub extern "C" fn shorgavel_entries(
 
 // The page call of one of two trucks over one table: it is lent a half of the table, the first by 0 and the second by any other number.
 // No other place is written, and a half with less room is refused.
-#[unsafe(no_mangle)]
-pub extern "C" fn shorgavel_half_entries(
+pub fn shorgavel_half_entries(
     db: &[u8],
     reading: u8,
     number: u32,
@@ -97,8 +92,7 @@ fn entries_by(db: &[u8], reading: u8, number: u32, share: Share, table: &mut [En
 }
 
 // The entry of cell `i`; zeros where there is no such cell.
-#[unsafe(no_mangle)]
-pub extern "C" fn shorgavel_entry(db: &[u8], reading: u8, number: u32, i: usize) -> Entry
+pub fn shorgavel_entry(db: &[u8], reading: u8, number: u32, i: usize) -> Entry
     ensures { result ≡ entry_of reading number i db.now }
 {
     table::entry_by(db, page::open_page(db, asked::page_of(reading, number)), i)
@@ -107,8 +101,7 @@ pub extern "C" fn shorgavel_entry(db: &[u8], reading: u8, number: u32, i: usize)
 // ALL ROWS OF A TABLE, by its root page, as the file reading walks along it
 
 // How many there are, once all of the table is checked.
-#[unsafe(no_mangle)]
-pub extern "C" fn shorgavel_table_count(db: &[u8], root: u32) -> Listed
+pub fn shorgavel_table_count(db: &[u8], root: u32) -> Listed
     ensures { result ≡ counted_rows root db.now }
 {
     pages::listed_by(walk::count(db, root))
@@ -116,8 +109,7 @@ pub extern "C" fn shorgavel_table_count(db: &[u8], root: u32) -> Listed
 
 // The same, and the rows in a list that is lent, three words each: page, cell, row number. A list with fewer places than rows
 // is refused, and nothing is written on a refusal.
-#[unsafe(no_mangle)]
-pub extern "C" fn shorgavel_table_rows(db: &[u8], root: u32, list: &mut [i64]) -> Listed
+pub fn shorgavel_table_rows(db: &[u8], root: u32, list: &mut [i64]) -> Listed
     ensures { (result ≡ listed_rows (length list.old / 3) root db.now)
         × (list.new ≡ rows_over (length list.old / 3) root db.now list.old) }
 {
@@ -126,15 +118,13 @@ pub extern "C" fn shorgavel_table_rows(db: &[u8], root: u32, list: &mut [i64]) -
 
 // The same two of a table that both may trust: the walk accepts it, and the guarded reading refuses none of its rows. What the
 // walk refuses is told first, a list that is too short with it, and else the first row that the guarded reading refuses.
-#[unsafe(no_mangle)]
-pub extern "C" fn shorgavel_trusted_count(db: &[u8], root: u32) -> Listed
+pub fn shorgavel_trusted_count(db: &[u8], root: u32) -> Listed
     ensures { result ≡ counted_trusted root db.now }
 {
     pages::listed_by(trust::count(db, root))
 }
 
-#[unsafe(no_mangle)]
-pub extern "C" fn shorgavel_trusted_rows(db: &[u8], root: u32, list: &mut [i64]) -> Listed
+pub fn shorgavel_trusted_rows(db: &[u8], root: u32, list: &mut [i64]) -> Listed
     ensures { (result ≡ listed_trusted (length list.old / 3) root db.now)
         × (list.new ≡ trusted_over (length list.old / 3) root db.now list.old) }
 {
@@ -143,8 +133,7 @@ pub extern "C" fn shorgavel_trusted_rows(db: &[u8], root: u32, list: &mut [i64])
 
 // A PAGE THAT IS OPENED, for its cells one after the other: 2 is guarded, which opens table leaves alone
 
-#[unsafe(no_mangle)]
-pub extern "C" fn shorgavel_open(db: &[u8], reading: u8, number: u32) -> Opening
+pub fn shorgavel_open(db: &[u8], reading: u8, number: u32) -> Opening
     ensures { result ≡ opening_of reading number db.now }
 {
     if asked::is_guarded(reading) {
@@ -156,8 +145,7 @@ pub extern "C" fn shorgavel_open(db: &[u8], reading: u8, number: u32) -> Opening
 
 // A row with its values, as many as the table has places; the cursor goes on behind them. On a refusal the table is left as
 // it was.
-#[unsafe(no_mangle)]
-pub extern "C" fn shorgavel_row_in(db: &[u8], opened: Opened, i: usize, table: &mut [i64]) -> Row
+pub fn shorgavel_row_in(db: &[u8], opened: Opened, i: usize, table: &mut [i64]) -> Row
     ensures { (result ≡ row_by (length table.old / 5) db.now (row_in opened i db.now))
         × (table.new ≡ row_over (length table.old / 5) db.now (row_in opened i db.now) table.old) }
 {
@@ -167,24 +155,21 @@ pub extern "C" fn shorgavel_row_in(db: &[u8], opened: Opened, i: usize, table: &
 
 // ONE CELL
 
-#[unsafe(no_mangle)]
-pub extern "C" fn shorgavel_old_cell(db: &[u8], number: u32, i: usize) -> Cell
+pub fn shorgavel_old_cell(db: &[u8], number: u32, i: usize) -> Cell
     ensures { result ≡ old_cell number i db.now }
 {
     let found = row::found(db, place::old(number), i);
     rows::cell_by(found, row_head::shortest_of(db, found))
 }
 
-#[unsafe(no_mangle)]
-pub extern "C" fn shorgavel_file_cell(db: &[u8], number: u32, i: usize) -> Cell
+pub fn shorgavel_file_cell(db: &[u8], number: u32, i: usize) -> Cell
     ensures { result ≡ file_cell number i db.now }
 {
     let found = row::found(db, place::file(number), i);
     rows::cell_by(found, row_head::shortest_of(db, found))
 }
 
-#[unsafe(no_mangle)]
-pub extern "C" fn shorgavel_guarded_cell(db: &[u8], number: u32, i: usize) -> Cell
+pub fn shorgavel_guarded_cell(db: &[u8], number: u32, i: usize) -> Cell
     ensures { result ≡ guarded_cell number i db.now }
 {
     let found = guarded::found(db, number, i);
@@ -195,8 +180,7 @@ pub extern "C" fn shorgavel_guarded_cell(db: &[u8], number: u32, i: usize) -> Ce
 
 // As many values from a cursor on as the table has places, and the cursor behind them. A place is a `turns::types::Value`,
 // five words of 64 bits.
-#[unsafe(no_mangle)]
-pub extern "C" fn shorgavel_old_values(db: &[u8], along: Along, table: &mut [i64]) -> Filled
+pub fn shorgavel_old_values(db: &[u8], along: Along, table: &mut [i64]) -> Filled
     ensures { (result ≡ filled_by (old_run along (length table.old / 5) db.now))
         × (table.new ≡ over (old_run along (length table.old / 5) db.now) table.old) }
 {
@@ -205,8 +189,7 @@ pub extern "C" fn shorgavel_old_values(db: &[u8], along: Along, table: &mut [i64
 }
 
 // A guarded row goes on with it too.
-#[unsafe(no_mangle)]
-pub extern "C" fn shorgavel_file_values(db: &[u8], along: Along, table: &mut [i64]) -> Filled
+pub fn shorgavel_file_values(db: &[u8], along: Along, table: &mut [i64]) -> Filled
     ensures { (result ≡ filled_by (file_run along (length table.old / 5) db.now))
         × (table.new ≡ over (file_run along (length table.old / 5) db.now) table.old) }
 {
@@ -216,22 +199,19 @@ pub extern "C" fn shorgavel_file_values(db: &[u8], along: Along, table: &mut [i6
 
 // ONE VALUE: column `k` of cell `i`
 
-#[unsafe(no_mangle)]
-pub extern "C" fn shorgavel_old_value(db: &[u8], number: u32, i: usize, k: usize) -> Shown
+pub fn shorgavel_old_value(db: &[u8], number: u32, i: usize, k: usize) -> Shown
     ensures { result ≡ old_shown_of number i k db.now }
 {
     shown::old_shown(row_values::old::value(db, number, i, k))
 }
 
-#[unsafe(no_mangle)]
-pub extern "C" fn shorgavel_file_value(db: &[u8], number: u32, i: usize, k: usize) -> Shown
+pub fn shorgavel_file_value(db: &[u8], number: u32, i: usize, k: usize) -> Shown
     ensures { result ≡ file_shown_of number i k db.now }
 {
     shown::file_shown(row_values::file::value(db, number, i, k))
 }
 
-#[unsafe(no_mangle)]
-pub extern "C" fn shorgavel_guarded_value(db: &[u8], number: u32, i: usize, k: usize) -> Shown
+pub fn shorgavel_guarded_value(db: &[u8], number: u32, i: usize, k: usize) -> Shown
     ensures { result ≡ guarded_shown_of number i k db.now }
 {
     shown::file_shown(guarded::value(db, number, i, k))
@@ -242,8 +222,7 @@ pub extern "C" fn shorgavel_guarded_value(db: &[u8], number: u32, i: usize, k: u
 // The value at each address of a list, as the call on one value answers it: in three words an address (`screen`), in eight an
 // answer, a `turns::types::Shown`. What is refused stops no other. A list of answers with fewer places is refused before anything
 // is read, and left as it was; so are the places behind the last answer.
-#[unsafe(no_mangle)]
-pub extern "C" fn shorgavel_screen(
+pub fn shorgavel_screen(
     db: &[u8],
     reading: u8,
     addresses: &[u64],
@@ -258,8 +237,7 @@ pub extern "C" fn shorgavel_screen(
 // WITH A GATHER BUFFER LENT, where a payload that spills is gathered: the bytes of a text or a blob are then the buffer's. The
 // buffer is left as it was where nothing is gathered.
 
-#[unsafe(no_mangle)]
-pub extern "C" fn shorgavel_file_value_lent(
+pub fn shorgavel_file_value_lent(
     db: &[u8],
     number: u32,
     i: usize,
@@ -272,8 +250,7 @@ pub extern "C" fn shorgavel_file_value_lent(
     sources::lent_shown(spilled::value(db, number, i, k, buffer))
 }
 
-#[unsafe(no_mangle)]
-pub extern "C" fn shorgavel_guarded_value_lent(
+pub fn shorgavel_guarded_value_lent(
     db: &[u8],
     number: u32,
     i: usize,
@@ -287,8 +264,7 @@ pub extern "C" fn shorgavel_guarded_value_lent(
 }
 
 // A row with its values, as `shorgavel_row_in` answers it where its payload is whole.
-#[unsafe(no_mangle)]
-pub extern "C" fn shorgavel_row_lent(
+pub fn shorgavel_row_lent(
     db: &[u8],
     opened: Opened,
     i: usize,

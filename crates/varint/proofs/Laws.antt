@@ -27,13 +27,13 @@ widened zero l (last h b p) = absurd (omega arith)
 widened zero l (next h b r) = absurd (omega arith)
 widened (suc j) l (ninth h p) = ninth h p
 widened (suc j) l (last h b p) = last h b p
-widened (suc j) l (next h b r) = next h b (widened j (omega arith) r)
+widened {n = n} {v = v} (suc j) l (next {k = k} h b r) = next h b (widened {k = k} j (omega arith) r)
 
 narrowed : {x : Number} {j n v : ℕ} {s : List ℕ} (k : ℕ) → n ≤ 8 → x.length ≤ n + k → Reads x j n v s → Reads x k n v s
 narrowed zero l t r = let u = took l r in absurd (omega arith)
 narrowed (suc k) l t (ninth h p) = ninth h p
 narrowed (suc k) l t (last h b p) = last h b p
-narrowed (suc k) l t (next h b r) = next h b (narrowed k (omega arith) (omega arith) r)
+narrowed (suc k) l t (next {k = j} h b r) = next h b (narrowed {j = j} k (omega arith) (omega arith) r)
 
 continued : {x : Number} {k n v : ℕ} {s : List ℕ} (z : List ℕ) → Reads x k n v s → Reads x k n v (s ++ z)
 continued z (ninth h p) = ninth h p
