@@ -11,11 +11,10 @@ use lib.IntN.{ℤ}
 use lib.Signed.{mag}
 use mir.Syntax.{w64}
 use mir.Facts.{to_z-of_z}
-use borrow.Author.Rules.{rules}
 use Rattle.laws.proofs.Table.{at}
 use Rattle.fields.specs.Fields.{twos, unsigned, signed}
-use Rattle.fields.proofs.signed_spelt.Statement.{statement}
-use Rattle.fields.proofs.signed_spelt.Tie as tie
+use borrow.Author.Rules.{rules}
+use Rattle.fields.proofs.signed_spelt.Goals as goal
 
 -- the code's table, entry for entry
 tops : List ℕ
@@ -44,33 +43,16 @@ module _ (w : ℕ) (l : 1 ≤ w) (h : w ≤ 8) where
       → (z ≡ signed w s) × (2 * mag z < 256 ^ w)
   turned s p q m = (q ∙ rw (twice, p), omega (arith, twice))
 
-spelt-requires : tie.Need-spelt-requires
-spelt-requires c κs = search rules
-
-sub-from-twos : tie.Need-overflow-sub-from-twos
-sub-from-twos c = search rules
-
-mul-from-twos : tie.Need-overflow-mul-from-twos
-mul-from-twos c = search rules
-
-array-read-from-twos : tie.Need-array-read-from-twos
-array-read-from-twos c = search rules
-
-from-twos-requires : tie.Need-from-twos-requires
+pub from_twos-requires : goal.from_twos-requires
 unfolding tops top
-from-twos-requires c κs =
-    let a = c.before.before.args in
+from_twos-requires c =
+    let a = c.args in
     fits a.width (search rules) (search rules) c.spelt.ensures.1
 
-returns : tie.Need-returns
+pub returns : goal.returns
 unfolding tops top
 returns c =
-    let a = c.before.before.before.args in
-    let f = c.from-twos in
-    rw (to_z-of_z {w = w64} (record { sfits = f.type-inv }))
-    (turned a.width (search rules) (search rules) a.part.now c.before.spelt.ensures.0 f.ensures.0 f.ensures.1)
-
-pub signed-spelt-spec : {M : Type 1} → statement M
-signed-spelt-spec =
-    tie.close
-    (tie.spec spelt-requires sub-from-twos mul-from-twos array-read-from-twos from-twos-requires returns)
+    let a = c.args in
+    let f = c.from_twos in
+    rw (to_z-of_z {w = w64} (record { sfits = f.type_inv }))
+    (turned a.width (search rules) (search rules) a.part.now c.spelt.ensures.0 f.ensures.0 f.ensures.1)

@@ -1,0 +1,16 @@
+-- A number of 8 bits fits `i8`.
+use mathlib.Core.Path.{◌∙◌}
+use native.Mathlib.Omega.{arith}
+use mir.Syntax.{w8, w64}
+use Rattle.laws.proofs.Casts.{cast_fits, cast_same}
+use Rattle.fields.proofs.be_i8.Goals as goal
+
+pub overflow_cast-result : goal.overflow_cast-result
+overflow_cast-result c =
+    let r = c.signed_spelt in
+    cast_fits w64 w8 r.result (record { sfits = r.type_inv }) (record { sfits = omega (arith, r.ensures.1) })
+
+pub returns : goal.returns
+returns c =
+    let r = c.signed_spelt in
+    cast_same w64 w8 r.result (record { sfits = r.type_inv }) (record { sfits = omega (arith, r.ensures.1) }) ∙ r.ensures.0
