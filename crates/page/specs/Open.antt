@@ -1,6 +1,6 @@
 -- A page that is opened: behind its place and kind its cells, and where its pointers end. The check is the row 11 of
 -- docs/READINGS.md, behind those of the site.
-use Rattle.std.specs.Prelude.{ℕ, ◌+◌, List, Bool, false, ltb, leb, length, drop}
+use Rattle.std.specs.Prelude.{ℕ, ◌+◌, List, Bool, false, ltb, leb, drop}
 use Rattle.laws.specs.Pick.{pick}
 use Rattle.fields.specs.Fields.{unsigned}
 use Rattle.answers.specs.declared.Reason.TheVariants as re
