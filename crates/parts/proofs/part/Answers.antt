@@ -1,5 +1,5 @@
 -- Where fewer bytes are left than are asked for, all of them are taken.
-use Prim.Native.Nat.{◌-◌, ◌≤◌}
+use Prim.Native.Nat.{◌≤◌}
 use mathlib.Core.Path.{sym, ◌∙◌}
 use native.Mathlib.Nat.{le_of_lt, sub-zero}
 use lib.ListN.{length, drop}
