@@ -111,6 +111,7 @@ impl Cursor {
     }
 
     // Column `k`, counted from the cursor.
+    #[tactic(auto, using(crate::proofs::Along::slot_first))]
     pub fn find(self, s: &[u8], k: usize) -> Slot
         ensures { result ≡ slot_of k self s.now }
     {

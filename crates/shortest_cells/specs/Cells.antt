@@ -1,6 +1,6 @@
 -- Whether all varints that a reading took from a cell are in their shortest form. What it did not take does not count: a type that
 -- has no end, and what stands behind the values.
-use Rattle.std.specs.Prelude.{ℕ, Bool, true, ◌||◌, ◌&&◌, eqb}
+use Rattle.std.specs.Prelude.{Bool, true, ◌||◌, ◌&&◌, eqb}
 use Rattle.varint.specs.declared.Number.{Number}
 use Rattle.shortest.specs.Shortest.{shortest}
 use Rattle.record.specs.Types.{Types, done, broken, column}

@@ -2,7 +2,7 @@
 use mathlib.Core.Path.{sym, ap, ◌∙◌}
 use Rattle.cells.specs.declared.Located as dl
 use Rattle.cells.specs.Located.{located_in}
-use Rattle.cells.proofs.Laws.{Kept, kept, located-unanswered}
+use Rattle.cells.proofs.Laws.{kept, located-unanswered}
 use Rattle.row.specs.declared.FoundAnswer.TheVariants as fo
 use Rattle.row.specs.Found.{cursor_for}
 use Rattle.row.proofs.Placed.{lying, found-told}

@@ -1,0 +1,19 @@
+-- A page that lies in the bytes is read as an opened one.
+use mathlib.Core.Path.{sym, ◌∙◌}
+use Rattle.page.proofs.Opened.{lies-opened}
+use Rattle.cells.specs.Numbered.{numbers_in}
+use Rattle.cells.proofs.Laws.{fitting}
+use Rattle.cells.proofs.numbers_in.Goals as goal
+
+pub numbers_from-requires : goal.numbers_from-requires
+numbers_from-requires c =
+    let a = c.args in
+    rw c.bytes_of.ensures (fitting _ _ (lies-opened a.opened a.db.now (sym c.lies.ensures ∙ c.if-lies.true)))
+
+pub returns-then-lies : goal.returns-then-lies
+unfolding numbers_in
+returns-then-lies c = rw (sym c.lies.ensures ∙ c.if-lies.true) (rw c.bytes_of.ensures at c.numbers_from.ensures)
+
+pub returns : goal.returns
+unfolding numbers_in
+returns c = rw (sym c.lies.ensures ∙ c.if-lies.false)
