@@ -1,6 +1,6 @@
 -- The guarded reading: a cell of a table leaf as the file reading has it, where its record has no mark. The old reading is
 -- never run for it; that the two agree is the theorem of `agreement`.
-use Rattle.std.specs.Prelude.{ℕ, List, Bool, true, false}
+use Rattle.std.specs.Prelude.{ℕ, List}
 use Rattle.laws.specs.Pick.{pick}
 use Rattle.answers.specs.declared.Reason.TheVariants as re
 use Rattle.answers.specs.declared.Refusal.{Refusal}

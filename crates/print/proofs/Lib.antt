@@ -1,4 +1,6 @@
 pub mod Signs
 pub mod Spelt
+pub mod Spelling
 pub mod Places
 pub mod Gathering
+pub mod Written

@@ -1,4 +1,4 @@
--- How many digits `io` answers for a number is how many the definitions count.
+-- The fewest digits that hold a number are how many the definitions count.
 use Prim.Native.Nat.{ℕ, zero, suc, ◌+◌, ◌-◌, ◌^◌, ◌≤◌, ◌<◌}
 use mathlib.Core.Path.{◌≡◌, refl, sym, ap}
 use mathlib.Core.Bool.{Bool, true, false}
@@ -6,7 +6,7 @@ use native.Mathlib.Nat.{pow-le-pow_right}
 use native.Mathlib.Omega.{arith}
 use lib.Dec.{ltb, lit<}
 use borrow.Author.Tests.{ltb-true, ltb-false}
-use Rattle.io.specs.Digits.{last_digits, IsDigitCount}
+use Rattle.print.specs.Digits.{last_digits, IsDigitCount}
 use Rattle.laws.specs.Pick.{pick}
 use Rattle.print.specs.Text.{places_from, decimal_of}
 
@@ -50,7 +50,3 @@ unfolding decimal_of
 decimal-is n k h f =
     let l = few n k h f (ltb 20 k) refl in
     ap (λ (i : ℕ). last_digits 10 i n) (sym (places 20 1 k n f.0 (omega arith) f.1 f.2))
-
--- all 64 bits
-pub bits_are : (n k : ℕ) → n < 2 ^ 64 → IsDigitCount 16 16 n k → last_digits 16 k n ≡ last_digits 16 16 n
-bits_are n k h f = ap (λ (i : ℕ). last_digits 16 i n) (sym (fewest 16 16 k n (lit< tt) f.0 h f.2))

@@ -6,7 +6,7 @@ use native.Mathlib.Numerals.{add-one}
 use native.Mathlib.Omega.{arith}
 use lib.ListN.{length, take, drop, get_or, set}
 use lib.Seq.{take-suc-set, lt-length-set, drop-cons, append_snoc}
-use Rattle.io.specs.Digits.{hex_digit_ascii}
+use Rattle.print.specs.Digits.{hex_digit_ascii}
 use Rattle.print.specs.Hex.{hex_of}
 
 -- two stores, one after the other

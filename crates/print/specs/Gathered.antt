@@ -1,6 +1,6 @@
 -- Output that is gathered in a buffer. What goes to the system is in no contract; what the buffer holds then, and how many
 -- bytes wait in it, is.
-use Rattle.std.specs.Prelude.{ℕ, ◌+◌, List, [], ◌∷◌, ltb, length, set}
+use Rattle.std.specs.Prelude.{◌≡◌, ℕ, ◌+◌, List, [], ◌∷◌, ◌++◌, ltb, length, set}
 use Rattle.laws.specs.Pick.{pick}
 
 -- a buffer, and how many bytes wait at its start
@@ -22,3 +22,10 @@ put b x =
 unfoldable pub puts : List ℕ → Gathered → Gathered
 puts [] x = x
 puts (b ∷ s) x = puts s (put b x)
+
+-- what is held where a write failed: some of the bytes were put, the first ones
+pub record HoldsBeginning (s : List ℕ) (x : Gathered) (held : List ℕ) : Type 0 where
+  pub begins : List ℕ
+  pub rest : List ℕ
+  pub parted : s ≡ begins ++ rest
+  pub put_first : held ≡ (puts begins x).held

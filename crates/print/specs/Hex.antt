@@ -1,6 +1,6 @@
 -- Bytes as text: two hexadecimal digits for each, the upper one first.
 use Rattle.std.specs.Prelude.{ℕ, ◌/◌, ◌%◌, List, [], ◌∷◌}
-use Rattle.io.specs.Digits.{hex_digit_ascii}
+use Rattle.print.specs.Digits.{hex_digit_ascii}
 
 abbrev pub hex_of : List ℕ → List ℕ
 hex_of [] = []

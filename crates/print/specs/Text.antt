@@ -1,7 +1,7 @@
 -- Numbers and refusals as text, in ASCII.
 use Rattle.std.specs.Prelude.{ℕ, zero, suc, ◌+◌, ◌^◌, List, [], ◌∷◌, ◌++◌, ltb, ℤ, pos, negsuc}
 use Rattle.laws.specs.Pick.{pick}
-use Rattle.io.specs.Digits.{last_digits}
+use Rattle.print.specs.Digits.{last_digits}
 use Rattle.answers.specs.declared.Numbers.{Numbers}
 
 -- how many decimal digits a number takes, if they are k at least
@@ -17,6 +17,10 @@ decimal_of n = last_digits 10 (places_from 20 1 n) n
 abbrev pub signed_of : ℤ → List ℕ
 signed_of (pos n) = decimal_of n
 signed_of (negsuc n) = 0x2d ∷ decimal_of (suc n)
+
+-- all 64 bits, in hexadecimal
+unfoldable pub bits_of : ℕ → List ℕ
+bits_of n = last_digits 16 16 n
 
 -- a space, and a number
 abbrev pub field_of : ℕ → List ℕ

@@ -1,35 +1,47 @@
-// What our programs write with, to standard output: text, numbers and bytes, at once or (`out`) gathered in a buffer.
+// What our programs write with: text, numbers and bytes, at once or (`out`) gathered in a buffer. And (`input`) what they read with.
 //
-// No contract can say what is written. The public functions here answer nothing, and are proved safe and ending, whatever
-// they are handed; those of `out` promise what they gather. What is written is made by functions whose contracts say what
-// they make: `magnitude`, `digit` and `spell` here, and the digits of `io`. A write that fails is not told, as a program has
-// no exit status to tell it by.
+// A writer is lent to each function. Where its bytes are known, as those of one over memory are, the contracts say what is
+// appended to them; of a system's file no contract can. Those of `out` promise what they gather. A write that fails is told.
 #![tactic(auto)]
 
+mod digits;
+pub mod input;
 pub mod out;
 
-ghost use Rattle.std.specs.Prelude.{◌≡◌, ◌*◌, ◌<◌, ◌≤◌, nat_abs, length, take};
-ghost use Rattle.io.specs.Counts.{IsPrefixLen};
-ghost use Rattle.io.specs.Digits.{hex_digit_ascii};
+ghost use Rattle.std.specs.Prelude.{◌≡◌, ◌*◌, ◌<◌, ◌≤◌, OnOk, nat_abs, length, take};
+ghost use Rattle.std.specs.Io.KnownBytes.{Appends};
+ghost use Rattle.print.specs.Digits.{hex_digit_ascii};
 ghost use Rattle.print.specs.Hex.{hex_of};
+ghost use Rattle.print.specs.Text.{bits_of, decimal_of, signed_of};
 
-use libc::STDOUT_FILENO;
+use digits::{decimal, hexadecimal};
+use std::io;
+use std::io::Write;
 
-pub fn text(s: &[u8]) {
-    io::write_all(STDOUT_FILENO, s);
+pub fn text<W: Write>(to: &mut W, s: &[u8]) -> io::Result<()>
+    ensures written { OnOk result (Appends (W.contents to.old) (W.contents to.new) s.now) }
+{
+    to.write_all(s)
 }
 
 // In decimal.
-pub fn number(n: u64) {
-    io::print_decimal(STDOUT_FILENO, n);
+pub fn number<W: Write>(to: &mut W, n: u64) -> io::Result<()>
+    ensures written { OnOk result (Appends (W.contents to.old) (W.contents to.new) (decimal_of n)) }
+{
+    let mut digits = [0u8; 20];
+    let from = decimal(n, &mut digits);
+    text(to, &digits[from..])
 }
 
 // In decimal, with a `-` before a number below zero.
-pub fn signed(z: i64) {
+pub fn signed<W: Write>(to: &mut W, z: i64) -> io::Result<()>
+    ensures written { OnOk result (Appends (W.contents to.old) (W.contents to.new) (signed_of z)) }
+{
+    let size = magnitude(z);
     if z < 0 {
-        text(b"-");
+        text(to, b"-")?;
     }
-    number(magnitude(z));
+    number(to, size)
 }
 
 // The number without its sign. The opposite of the least number is no i64, but -1 - z always is.
@@ -43,37 +55,44 @@ fn magnitude(z: i64) -> u64
 }
 
 // All 64 bits, as 16 hexadecimal digits in lower case.
-pub fn bits(n: u64) {
-    io::print_hex(STDOUT_FILENO, n, 16);
+pub fn bits<W: Write>(to: &mut W, n: u64) -> io::Result<()>
+    ensures written { OnOk result (Appends (W.contents to.old) (W.contents to.new) (bits_of n)) }
+{
+    let mut digits = [0u8; 16];
+    hexadecimal(n, &mut digits);
+    text(to, &digits)
 }
 
 // How many bytes are spelt between two writes, so that a long slice takes few of them.
 const CHUNK: usize = 32;
 
 // Every byte as two hexadecimal digits in lower case, with nothing between.
-pub fn hex(s: &[u8]) {
+pub fn hex<W: Write>(to: &mut W, s: &[u8]) -> io::Result<()>
+    ensures written { OnOk result (Appends (W.contents to.old) (W.contents to.new) (hex_of s.now)) }
+{
     let mut at: usize = 0;
     while CHUNK < s.len() - at {
         let end = at + CHUNK;
-        chunk(&s[at..end]);
+        chunk(to, &s[at..end])?;
         at = end;
     }
-    chunk(&s[at..]);
+    chunk(to, &s[at..])
 }
 
 // One write of `hex`.
-fn chunk(s: &[u8])
+fn chunk<W: Write>(to: &mut W, s: &[u8]) -> io::Result<()>
     requires { length s.now ≤ 32 }
+    ensures written { OnOk result (Appends (W.contents to.old) (W.contents to.new) (hex_of s.now)) }
 {
     let mut out = [0u8; 2 * CHUNK];
     let n = spell(s, &mut out);
-    text(&out[..n]);
+    text(to, &out[..n])
 }
 
 // Puts the two digits of each byte at the start of out, and answers how many digits there are.
 fn spell(s: &[u8], out: &mut [u8]) -> usize
     requires { 2 * length s.now ≤ length out.old }
-    ensures prefix_len { IsPrefixLen result out.new }
+    ensures in_bounds { result ≤ length out.new }
     ensures out_after { take result out.new ≡ hex_of s.now }
 {
     let mut i: usize = 0;

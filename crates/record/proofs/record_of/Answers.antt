@@ -46,7 +46,8 @@ headed r q v e f =
 pub returns-in_default : goal.returns-in_default
 returns-in_default c =
     let a = c.args in
-    ap ra.Faulty c.headless_fault.ensures ∙ sym (record-headless a.reading a.q.now (read-is a.reading a.q.now c.limit_of.ensures c.read.ensures c.in_default.is))
+    let e = read-is a.reading a.q.now c.limit_of.ensures c.read.ensures c.in_default.is in
+    ap ra.Faulty c.headless_fault.ensures ∙ sym (record-headless a.reading a.q.now e)
 
 pub slice_bounds-fit_of-count : goal.slice_bounds-fit_of-count
 slice_bounds-fit_of-count c =
