@@ -97,7 +97,7 @@ module _ (g : Bool) (r : Reading) (u : ℕ) (s : List ℕ) where
         columns = hd.columns;
         from = refl;
         payload = refl;
-        own_val = refl;
+        own = refl;
         values = rw (counted-one r) (omega arith);
         clean = λ i. clear-clean size.length key.length hd.types (length-bounds s 5 e).1 (length-bounds (drop size.length s) 5 f).1 (hd.clean i);
       }
