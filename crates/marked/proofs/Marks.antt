@@ -3,7 +3,7 @@ use Prim.Native.Nat.{ℕ, ◌-◌}
 use mathlib.Core.Path.{◌≡◌, refl}
 use mathlib.Core.List.{List}
 use native.Mathlib.Omega.{arith}
-use lib.ListN.{length, take, drop}
+use lib.ListN.{take, drop}
 use Rattle.laws.proofs.Never.{never}
 use Rattle.reading.specs.declared.Reading.TheVariants.{File as file}
 use Rattle.answers.specs.declared.Fault.TheVariants as fa

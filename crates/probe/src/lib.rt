@@ -37,6 +37,7 @@ const BLANK: Entry = Entry {
 
 // The page call for a caller that has no table to lend: one of eight blanks is lent, and its place i is shown, blank where
 // there is no such place. With plain parameters, so that tests of the page call can be covered.
+#[tactic(auto, using(crate::proofs::Shown::shown_below, crate::proofs::Shown::shown_above))]
 pub fn probe(db: &[u8], asked: Page, i: usize) -> Probed
     ensures { result ≡ probe_of i asked db.now }
 {

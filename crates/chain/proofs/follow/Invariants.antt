@@ -1,5 +1,4 @@
 -- Each page's content is laid behind what is there, and the rest of the chain behind it.
-use Prim.Native.Nat.{◌-◌}
 use lib.ListN.{length}
 use Rattle.chain.proofs.Following.{Going, ahead}
 use Rattle.chain.proofs.follow.Given as goal

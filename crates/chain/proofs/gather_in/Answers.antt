@@ -2,7 +2,6 @@
 use mathlib.Core.Path.{◌≡◌, refl, sym, ◌∙◌}
 use lib.ListN.{length}
 use Rattle.reading.specs.declared.Reading.TheVariants.{File as file}
-use Rattle.answers.specs.Answer.{shown}
 use Rattle.shape.specs.Shape.{shape_of}
 use Rattle.shape.proofs.Laws.{shape-answered, shape-unanswered}
 use Rattle.chain.specs.Gathered.{payload_answer, held_by}

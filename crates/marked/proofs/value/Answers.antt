@@ -1,0 +1,16 @@
+-- What is shown lies in the database.
+use mathlib.Core.Path.{ap, ◌∙◌}
+use lib.ListN.{length}
+use Rattle.row_values.specs.File.{shown_by}
+use Rattle.spills.specs.declared.Source.TheVariants.{Database}
+use Rattle.spilled.specs.Values.{from}
+use Rattle.marked.specs.Marked.{value_of}
+use Rattle.marked.proofs.Guarded.{lent-column}
+use Rattle.marked.proofs.value.Goals as goal
+
+pub returns : goal.returns
+unfolding value_of
+returns c =
+    let a = c.args in
+    let e = (rw c.found-answer.ensures.0 at c.column_of.ensures) ∙ lent-column a.k a.number a.i (length a.buffer.now) a.db.now in
+    (c.shown_from.ensures ∙ ap (from Database) (c.shown.ensures ∙ ap (shown_by a.db.now) e), c.found-answer.ensures.1)
