@@ -87,6 +87,7 @@ fn no_page(page: Page, reason: Reason) -> PageAnswer
 }
 
 // An opened page with all its cells, where a table of `room` entries is lent.
+#[tactic(auto, using(crate::proofs::Checked::page_short))]
 fn checked_page(db: &[u8], opened: Open, room: usize) -> PageAnswer
     ensures { result ≡ page_answer (page_in opened room db.now) }
 {

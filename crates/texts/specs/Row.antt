@@ -1,7 +1,6 @@
 -- The rest of a cell's line in the file reading, in ASCII: its row number and its values, or the refusal. The table is that of
 -- docs/READINGS.md, row by row.
 use Rattle.std.specs.Prelude.{ℕ, zero, suc, List, [], ◌∷◌, ◌++◌}
-use Rattle.io.specs.Digits.{last_digits}
 use Rattle.answers.specs.Numbers.{numbers_of}
 use Rattle.values.specs.declared.file.Value.{Value}
 use Rattle.values.specs.declared.file.Value.TheVariants.{Null, Integer, Real, Text, Blob}
@@ -14,13 +13,13 @@ use Rattle.row_values.specs.declared.file.NextAnswer.{NextAnswer}
 use Rattle.row_values.specs.declared.file.NextAnswer.TheVariants as ne
 use Rattle.row_values.specs.File.{next_of}
 use Rattle.print.specs.Hex.{hex_of}
-use Rattle.print.specs.Text.{signed_of, refused_of}
+use Rattle.print.specs.Text.{bits_of, signed_of, refused_of}
 
 -- ` null`; or a space, `i:`, `r:`, `b:` or `t:`, and what it is
 abbrev pub value_text : List ℕ → Value → List ℕ
 value_text db Null = 0x20 ∷ 0x6e ∷ 0x75 ∷ 0x6c ∷ 0x6c ∷ []
 value_text db (Integer z) = (0x20 ∷ 0x69 ∷ 0x3a ∷ []) ++ signed_of z
-value_text db (Real number bits) = (0x20 ∷ 0x72 ∷ 0x3a ∷ []) ++ last_digits 16 16 bits
+value_text db (Real number bits) = (0x20 ∷ 0x72 ∷ 0x3a ∷ []) ++ bits_of bits
 value_text db (Blob at len) = (0x20 ∷ 0x62 ∷ 0x3a ∷ []) ++ hex_of (part_of at len db)
 value_text db (Text at len) = (0x20 ∷ 0x74 ∷ 0x3a ∷ []) ++ hex_of (part_of at len db)
 
