@@ -53,12 +53,7 @@ pub fn shorgavel_page(db: &[u8], reading: u8, number: u32) -> PageHead
 
 // The page call: the same, and the entries of the cells in the table that is lent. As many are written as the head counts,
 // none on a refusal; a table with less room is refused.
-pub fn shorgavel_entries(
-    db: &[u8],
-    reading: u8,
-    number: u32,
-    table: &mut [Entry],
-) -> PageHead
+pub fn shorgavel_entries(db: &[u8], reading: u8, number: u32, table: &mut [Entry]) -> PageHead
     ensures { (result ≡ head_of reading number (length table.old) db.now)
         × (table.new ≡ entries_over reading number db.now result.head.cells table.old) }
 {
@@ -222,12 +217,7 @@ pub fn shorgavel_guarded_value(db: &[u8], number: u32, i: usize, k: usize) -> Sh
 // The value at each address of a list, as the call on one value answers it: in three words an address (`screen`), in eight an
 // answer, a `turns::types::Shown`. What is refused stops no other. A list of answers with fewer places is refused before anything
 // is read, and left as it was; so are the places behind the last answer.
-pub fn shorgavel_screen(
-    db: &[u8],
-    reading: u8,
-    addresses: &[u64],
-    answers: &mut [i64],
-) -> Screened
+pub fn shorgavel_screen(db: &[u8], reading: u8, addresses: &[u64], answers: &mut [i64]) -> Screened
     ensures { (result ≡ screened (length answers.old) (length addresses.now))
         × (answers.new ≡ answers_over (chosen_by reading) db.now addresses.now answers.old) }
 {

@@ -1,10 +1,10 @@
 -- The columns of a row that was checked, by a cursor that stands before one of them.
-use Prim.Native.Nat.{ℕ, zero, suc, ◌+◌, ◌-◌, ◌≤◌, ◌<◌}
+use Prim.Native.Nat.{ℕ, zero, suc, ◌+◌, ◌≤◌, ◌<◌}
 use mathlib.Core.Path.{◌≡◌, refl, sym, ap, subst, ◌∙◌}
 use mathlib.Core.List.{List}
 use native.Mathlib.Numerals.{add-one}
 use native.Mathlib.Omega.{arith}
-use lib.ListN.{length, length-take, length-drop}
+use lib.ListN.{length-take, length-drop}
 use Rattle.varint.specs.declared.Number.{Number}
 use Rattle.varint.proofs.Laws.{length-bounds}
 use Rattle.reading.specs.declared.Reading.{Reading}

@@ -2,7 +2,7 @@
 use Prim.Native.Nat.{ℕ, ◌+◌, ◌-◌, ◌≤◌, ◌<◌}
 use mathlib.Core.Path.{◌≡◌, refl, sym, ◌∙◌}
 use mathlib.Core.List.{List}
-use mathlib.Core.Bool.{Bool}
+use mathlib.Core.Bool.{Bool, true}
 use native.Mathlib.Omega.{arith}
 use lib.ListN.{length, take, drop, get_or, length-drop}
 use Rattle.varint.specs.declared.Number.{Number}
@@ -15,7 +15,7 @@ use Rattle.reading.specs.Reading.{limit}
 use Rattle.reading.proofs.Laws.{takes-five}
 use Rattle.record.specs.declared.Laid.TheVariants.{Ends}
 use Rattle.record.specs.declared.Fit.TheVariants.{Fits}
-use Rattle.record.specs.Types.{Types, types_of, count}
+use Rattle.record.specs.Types.{Types, types_of, count, walk}
 use Rattle.record.specs.Record.{counted, judged, fitted}
 use Rattle.record.proofs.Count.{fits_count}
 use Rattle.record.proofs.Stages.{fit-laid, judged-file}
@@ -28,7 +28,7 @@ use Rattle.cell.proofs.Inside.{inside}
 use Rattle.cell.proofs.Leaf.{leaf_numbers, leaf-again}
 use Rattle.layout.specs.declared.Layout.TheVariants as ly
 use Rattle.usual.specs.declared.Span.{Span}
-use Rattle.layout.specs.Lying.{Lying}
+use Rattle.layout.specs.Lying.{Lying, Clean}
 use Rattle.usual.specs.Short.{Head, Start}
 use Rattle.layout.proofs.Types.{clear-clean}
 
@@ -71,6 +71,13 @@ module _ (g : Bool) (r : Reading) (q : List ℕ) (n left : ℕ) where
           columns = sym m;
           clean = l.1;
         }
+
+-- of values that fill the payload in the file reading
+pub head_filled : (g : Bool) (r : Reading) (q : List ℕ) (n : ℕ) → r ≡ file
+    → walk 0 (length q - get_or q 0 0) (types_of (limit r) (take (get_or q 0 0 - 1) (drop 1 q))) ≡ Ends n 0
+    → (g ≡ true → Clean (types_of (limit r) (take (get_or q 0 0 - 1) (drop 1 q))))
+    → 0 < length q → get_or q 0 0 < 128 → 1 ≤ get_or q 0 0 → get_or q 0 0 ≤ length q → Head g r q (get_or q 0 0) n
+head_filled g r q n f w clean some byte low fit = head g r q n 0 some byte low fit (w, clean) (filled f (ts g r q n 0) n refl)
 
 -- THE ROW, its numbers before the record
 

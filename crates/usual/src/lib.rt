@@ -71,6 +71,7 @@ enum Found {
 // ROWS
 
 // The header size of the record in `q`.
+#[tactic(auto, using(crate::proofs::Records::head_filled))]
 fn header_of(q: &[u8], reading: Reading, guarded: bool) -> Header
     ensures { Headed guarded reading q.now result }
 {
