@@ -3,46 +3,67 @@ use columns::Cursor;
 use print::out::{field_i64, refused, text};
 use row::FoundAnswer;
 use row_values::old::NextAnswer;
+use std::io;
+use std::io::Write;
 use values::file;
 use values::narrow::{from_i8, from_i16, from_i32};
 use values::old::Value;
 use varint::Number;
 
 // The rest of a cell's line: the row number and the values, or the refusal.
-pub fn row(db: &[u8], out: &mut [u8], at: usize, answer: FoundAnswer) -> usize {
+pub fn row<W: Write>(
+    to: &mut W,
+    db: &[u8],
+    out: &mut [u8],
+    at: usize,
+    answer: FoundAnswer,
+) -> io::Result<usize> {
     match answer {
-        FoundAnswer::Refused(refusal) => refused(out, at, answers::numbers_of(refusal)),
+        FoundAnswer::Refused(refusal) => refused(to, out, at, answers::numbers_of(refusal)),
         FoundAnswer::Shown(found) => {
             let cell: cell::Cell = found.cell;
             let cursor = found.cursor;
             let row: Number = cell.row;
-            let n = field_i64(out, at, fields::signed_of(row.value));
-            let n = values(db, out, n, cursor, cell.columns);
-            text(out, n, b"\n")
+            let n = field_i64(to, out, at, fields::signed_of(row.value))?;
+            let n = values(to, db, out, n, cursor, cell.columns)?;
+            text(to, out, n, b"\n")
         }
     }
 }
 
 // At most as many values as are counted, so that the loop is seen to end.
-fn values(db: &[u8], out: &mut [u8], at: usize, first: Cursor, count: usize) -> usize {
+fn values<W: Write>(
+    to: &mut W,
+    db: &[u8],
+    out: &mut [u8],
+    at: usize,
+    first: Cursor,
+    count: usize,
+) -> io::Result<usize> {
     let mut n = at;
     let mut here = first;
     let mut left = count;
     while 0 < left {
         let reached = row_values::old::next(db, here);
         let NextAnswer::Column { value: v, next } = reached else {
-            return n;
+            return Ok(n);
         };
-        n = value(db, out, n, v);
+        n = value(to, db, out, n, v)?;
         here = next;
         left -= 1;
     }
-    n
+    Ok(n)
 }
 
 // A value is written as one of the file reading, whatever width its type has.
-fn value(db: &[u8], out: &mut [u8], at: usize, v: Value) -> usize {
-    texts::value(db, out, at, widened(v))
+fn value<W: Write>(
+    to: &mut W,
+    db: &[u8],
+    out: &mut [u8],
+    at: usize,
+    v: Value,
+) -> io::Result<usize> {
+    texts::value(to, db, out, at, widened(v))
 }
 
 fn widened(v: Value) -> file::Value {

@@ -9,6 +9,8 @@ use parts::behind;
 use print::out::{field, field_i64, field_u32, text};
 use row_head::{CountAnswer, RowNumberAnswer};
 use row_values::old::ValueAnswer;
+use std::io;
+use std::io::Write;
 
 // How many cells of a page are asked for, the first ones.
 const MOST: usize = 64;
@@ -16,30 +18,39 @@ const MOST: usize = 64;
 // How many columns are asked for one by one.
 const FEW: usize = 32;
 
-pub fn cells(db: &[u8], out: &mut [u8], at: usize, telling: Telling, number: u32) -> usize {
+pub fn cells<W: Write>(
+    to: &mut W,
+    db: &[u8],
+    out: &mut [u8],
+    at: usize,
+    telling: Telling,
+    number: u32,
+) -> io::Result<usize> {
     let answer = page::open_page(db, place::old(number));
     match answer {
-        OpenAnswer::Refused(_) => at,
-        OpenAnswer::Shown(opened) => each(db, out, at, telling, number, opened),
+        OpenAnswer::Refused(_) => Ok(at),
+        OpenAnswer::Shown(opened) => each(to, db, out, at, telling, number, opened),
     }
 }
 
-fn each(
+fn each<W: Write>(
+    to: &mut W,
     db: &[u8],
     out: &mut [u8],
     at: usize,
     telling: Telling,
     number: u32,
     opened: Open,
-) -> usize {
+) -> io::Result<usize> {
     let mut n = at;
     for i in 0..MOST {
-        n = one(db, out, n, telling, number, opened, i);
+        n = one(to, db, out, n, telling, number, opened, i)?;
     }
-    n
+    Ok(n)
 }
 
-fn one(
+fn one<W: Write>(
+    to: &mut W,
     db: &[u8],
     out: &mut [u8],
     at: usize,
@@ -47,14 +58,14 @@ fn one(
     number: u32,
     opened: Open,
     i: usize,
-) -> usize {
+) -> io::Result<usize> {
     if opened.cells <= i {
-        return at;
+        return Ok(at);
     }
     if pointer(db, opened, i) < pointers_end(opened.from, head_of(opened), opened.cells) {
-        return at;
+        return Ok(at);
     }
-    cell(db, out, at, telling, number, i)
+    cell(to, db, out, at, telling, number, i)
 }
 
 // How many bytes the head has before its pointers.
@@ -84,18 +95,35 @@ fn pointer(db: &[u8], opened: Open, i: usize) -> usize {
     fields::be_u16(rest) as usize
 }
 
-fn cell(db: &[u8], out: &mut [u8], at: usize, telling: Telling, number: u32, i: usize) -> usize {
-    let n = text(out, at, b"alone");
-    let n = field_u32(out, n, number);
-    let n = field(out, n, i as u64);
-    row(db, out, n, telling, number, i)
+fn cell<W: Write>(
+    to: &mut W,
+    db: &[u8],
+    out: &mut [u8],
+    at: usize,
+    telling: Telling,
+    number: u32,
+    i: usize,
+) -> io::Result<usize> {
+    let n = text(to, out, at, b"alone")?;
+    let n = field_u32(to, out, n, number)?;
+    let n = field(to, out, n, i as u64)?;
+    row(to, db, out, n, telling, number, i)
 }
 
 // Row number, column count and values, each by its own call.
-fn row(db: &[u8], out: &mut [u8], at: usize, telling: Telling, number: u32, i: usize) -> usize {
+fn row<W: Write>(
+    to: &mut W,
+    db: &[u8],
+    out: &mut [u8],
+    at: usize,
+    telling: Telling,
+    number: u32,
+    i: usize,
+) -> io::Result<usize> {
     let answer = row_head::row_number(db, place::old(number), i);
     match answer {
         RowNumberAnswer::Refused(refusal) => refused(
+            to,
             out,
             at,
             telling,
@@ -105,58 +133,97 @@ fn row(db: &[u8], out: &mut [u8], at: usize, telling: Telling, number: u32, i: u
             number: z,
             shortest: _,
         } => {
-            let n = field_i64(out, at, z);
-            counted(db, out, n, number, i)
+            let n = field_i64(to, out, at, z)?;
+            counted(to, db, out, n, number, i)
         }
     }
 }
 
 // A cell that has a row number is counted: no numbers are told.
-fn counted(db: &[u8], out: &mut [u8], at: usize, number: u32, i: usize) -> usize {
+fn counted<W: Write>(
+    to: &mut W,
+    db: &[u8],
+    out: &mut [u8],
+    at: usize,
+    number: u32,
+    i: usize,
+) -> io::Result<usize> {
     let answer = row_head::count(db, place::old(number), i);
     match answer {
-        CountAnswer::Refused(_) => text(out, at, b" refused\n"),
+        CountAnswer::Refused(_) => text(to, out, at, b" refused\n"),
         CountAnswer::Shown {
             columns: count,
             shortest: _,
         } => {
-            let n = field(out, at, count as u64);
-            columns(db, out, n, number, i, count)
+            let n = field(to, out, at, count as u64)?;
+            columns(to, db, out, n, number, i, count)
         }
     }
 }
 
 // A value call passes all columns before its own, so those of many go along a cursor.
-fn columns(db: &[u8], out: &mut [u8], at: usize, number: u32, i: usize, count: usize) -> usize {
+fn columns<W: Write>(
+    to: &mut W,
+    db: &[u8],
+    out: &mut [u8],
+    at: usize,
+    number: u32,
+    i: usize,
+    count: usize,
+) -> io::Result<usize> {
     if FEW < count {
-        return along::row(db, out, at, place::old(number), i, count);
+        return along::row(to, db, out, at, place::old(number), i, count);
     }
-    let n = values(db, out, at, number, i, count);
-    let n = behind_last(db, out, n, number, i, count);
-    text(out, n, b"\n")
+    let n = values(to, db, out, at, number, i, count)?;
+    let n = behind_last(to, db, out, n, number, i, count)?;
+    text(to, out, n, b"\n")
 }
 
-fn values(db: &[u8], out: &mut [u8], at: usize, number: u32, i: usize, count: usize) -> usize {
+fn values<W: Write>(
+    to: &mut W,
+    db: &[u8],
+    out: &mut [u8],
+    at: usize,
+    number: u32,
+    i: usize,
+    count: usize,
+) -> io::Result<usize> {
     let mut n = at;
     for k in 0..count {
-        n = value(db, out, n, number, i, k);
+        n = value(to, db, out, n, number, i, k)?;
     }
-    n
+    Ok(n)
 }
 
-fn value(db: &[u8], out: &mut [u8], at: usize, number: u32, i: usize, k: usize) -> usize {
+fn value<W: Write>(
+    to: &mut W,
+    db: &[u8],
+    out: &mut [u8],
+    at: usize,
+    number: u32,
+    i: usize,
+    k: usize,
+) -> io::Result<usize> {
     let answer = row_values::old::value(db, number, i, k);
     match answer {
-        ValueAnswer::Refused(_) => text(out, at, b" missing"),
-        ValueAnswer::Shown(v) => old::value(db, out, at, v),
+        ValueAnswer::Refused(_) => text(to, out, at, b" missing"),
+        ValueAnswer::Shown(v) => old::value(to, db, out, at, v),
     }
 }
 
 // There is no column behind the last: where one is shown, the line says so.
-fn behind_last(db: &[u8], out: &mut [u8], at: usize, number: u32, i: usize, k: usize) -> usize {
+fn behind_last<W: Write>(
+    to: &mut W,
+    db: &[u8],
+    out: &mut [u8],
+    at: usize,
+    number: u32,
+    i: usize,
+    k: usize,
+) -> io::Result<usize> {
     let answer = row_values::old::value(db, number, i, k);
     match answer {
-        ValueAnswer::Refused(_) => at,
-        ValueAnswer::Shown(_) => text(out, at, b" more"),
+        ValueAnswer::Refused(_) => Ok(at),
+        ValueAnswer::Shown(_) => text(to, out, at, b" more"),
     }
 }

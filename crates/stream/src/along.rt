@@ -4,6 +4,8 @@ use columns::{Cursor, Stepped};
 use place::Page;
 use print::out::text;
 use row::CursorAnswer;
+use std::io;
+use std::io::Write;
 
 // How many bytes wait behind a value, and the cursor behind it.
 #[derive(Clone, Copy)]
@@ -13,42 +15,63 @@ pub enum Went {
 }
 
 // As many values as are counted, and the end of the line. A cell that was counted has a cursor: no numbers are told.
-pub fn row(db: &[u8], out: &mut [u8], at: usize, asked: Page, i: usize, count: usize) -> usize {
+pub fn row<W: Write>(
+    to: &mut W,
+    db: &[u8],
+    out: &mut [u8],
+    at: usize,
+    asked: Page,
+    i: usize,
+    count: usize,
+) -> io::Result<usize> {
     let opened = row::cursor(db, asked, i);
     match opened {
-        CursorAnswer::Refused(_) => text(out, at, b" refused\n"),
+        CursorAnswer::Refused(_) => text(to, out, at, b" refused\n"),
         CursorAnswer::Shown(first) => {
-            let n = values(db, out, at, first, count);
-            text(out, n, b"\n")
+            let n = values(to, db, out, at, first, count)?;
+            text(to, out, n, b"\n")
         }
     }
 }
 
 // Where the cursor has fewer or more, the line says so.
-fn values(db: &[u8], out: &mut [u8], at: usize, first: Cursor, count: usize) -> usize {
+fn values<W: Write>(
+    to: &mut W,
+    db: &[u8],
+    out: &mut [u8],
+    at: usize,
+    first: Cursor,
+    count: usize,
+) -> io::Result<usize> {
     let mut n = at;
     let mut here = first;
     let mut left = count;
     while 0 < left {
-        let went = old::one(db, out, n, here);
+        let went = old::one(to, db, out, n, here)?;
         let Went::On { at: waiting, next } = went else {
-            return text(out, n, b" missing");
+            return text(to, out, n, b" missing");
         };
         n = waiting;
         here = next;
         left -= 1;
     }
-    last(db, out, n, here)
+    last(to, db, out, n, here)
 }
 
-fn last(db: &[u8], out: &mut [u8], at: usize, here: Cursor) -> usize {
+fn last<W: Write>(
+    to: &mut W,
+    db: &[u8],
+    out: &mut [u8],
+    at: usize,
+    here: Cursor,
+) -> io::Result<usize> {
     let reached = here.step(db);
     match reached {
-        Stepped::Done => at,
+        Stepped::Done => Ok(at),
         Stepped::Column {
             serial: _,
             at: _,
             next: _,
-        } => text(out, at, b" more"),
+        } => text(to, out, at, b" more"),
     }
 }

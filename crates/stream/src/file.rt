@@ -9,17 +9,20 @@ use print::out::{field, field_u32, refused, text};
 use reading::Reading;
 use shape::ShapeAnswer;
 use site::{Site, SiteAnswer};
+use std::io;
+use std::io::Write;
 
-pub fn database(db: &[u8], out: &mut [u8], at: usize) -> usize {
+pub fn database<W: Write>(to: &mut W, db: &[u8], out: &mut [u8], at: usize) -> io::Result<usize> {
     let answer = shape::shape_of(db, Reading::File);
     match answer {
         ShapeAnswer::Refused(flaw) => {
             let numbers = answers::numbers_of(Refusal::OfDatabase(flaw));
-            let n = text(out, at, b"header");
-            refused(out, n, numbers)
+            let n = text(to, out, at, b"header")?;
+            refused(to, out, n, numbers)
         }
         ShapeAnswer::Shown(shape) => {
             pages(
+                to,
                 db,
                 out,
                 at,
@@ -33,45 +36,72 @@ pub fn database(db: &[u8], out: &mut [u8], at: usize) -> usize {
 }
 
 // Other pages than table leaves are passed by.
-pub fn page(db: &[u8], out: &mut [u8], at: usize, number: u32) -> usize {
+pub fn page<W: Write>(
+    to: &mut W,
+    db: &[u8],
+    out: &mut [u8],
+    at: usize,
+    number: u32,
+) -> io::Result<usize> {
     let found = site::site_of(db, place::file(number));
     match found {
-        SiteAnswer::Refused(_) => at,
+        SiteAnswer::Refused(_) => Ok(at),
         SiteAnswer::Shown(site) => {
             let kind = site.kind;
             match kind {
-                Kind::LeafTable => leaf(db, out, at, number, site),
-                Kind::LeafIndex => at,
-                Kind::InteriorTable => at,
-                Kind::InteriorIndex => at,
+                Kind::LeafTable => leaf(to, db, out, at, number, site),
+                Kind::LeafIndex => Ok(at),
+                Kind::InteriorTable => Ok(at),
+                Kind::InteriorIndex => Ok(at),
             }
         }
     }
 }
 
-fn leaf(db: &[u8], out: &mut [u8], at: usize, number: u32, site: Site) -> usize {
+fn leaf<W: Write>(
+    to: &mut W,
+    db: &[u8],
+    out: &mut [u8],
+    at: usize,
+    number: u32,
+    site: Site,
+) -> io::Result<usize> {
     let answer = page::open_site(db, site);
     match answer {
         OpenAnswer::Refused(refusal) => {
-            let n = text(out, at, b"page");
-            let n = field_u32(out, n, number);
-            refused(out, n, answers::numbers_of(refusal))
+            let n = text(to, out, at, b"page")?;
+            let n = field_u32(to, out, n, number)?;
+            refused(to, out, n, answers::numbers_of(refusal))
         }
-        OpenAnswer::Shown(opened) => cells(db, out, at, number, opened.cells),
+        OpenAnswer::Shown(opened) => cells(to, db, out, at, number, opened.cells),
     }
 }
 
-fn cells(db: &[u8], out: &mut [u8], at: usize, number: u32, count: usize) -> usize {
+fn cells<W: Write>(
+    to: &mut W,
+    db: &[u8],
+    out: &mut [u8],
+    at: usize,
+    number: u32,
+    count: usize,
+) -> io::Result<usize> {
     let mut n = at;
     for i in 0..count {
-        n = cell(db, out, n, number, i);
+        n = cell(to, db, out, n, number, i)?;
     }
-    n
+    Ok(n)
 }
 
-fn cell(db: &[u8], out: &mut [u8], at: usize, number: u32, i: usize) -> usize {
-    let n = text(out, at, b"row");
-    let n = field_u32(out, n, number);
-    let n = field(out, n, i as u64);
-    texts::row(db, out, n, row::found(db, place::file(number), i))
+fn cell<W: Write>(
+    to: &mut W,
+    db: &[u8],
+    out: &mut [u8],
+    at: usize,
+    number: u32,
+    i: usize,
+) -> io::Result<usize> {
+    let n = text(to, out, at, b"row")?;
+    let n = field_u32(to, out, n, number)?;
+    let n = field(to, out, n, i as u64)?;
+    texts::row(to, db, out, n, row::found(db, place::file(number), i))
 }

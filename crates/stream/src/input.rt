@@ -1,5 +1,7 @@
-// A stream on standard input: for each database its length, four bytes, big-endian, and its bytes.
-use libc::STDIN_FILENO;
+// A stream: for each database its length, four bytes, big-endian, and its bytes.
+use print::input::read_full;
+use std::io;
+use std::io::Read;
 
 // What the stream has next.
 #[derive(Clone, Copy)]
@@ -11,32 +13,33 @@ pub enum Next {
     Bytes(u32),
 }
 
-pub fn fetch(db: &mut [u8]) -> Next {
+pub fn fetch<R: Read>(from: &mut R, db: &mut [u8]) -> io::Result<Next> {
     let mut head = [0u8; 4];
-    let got = io::read_full(STDIN_FILENO, &mut head);
+    let got = read_full(from, &mut head)?;
     if got == 0 {
-        return Next::End;
+        return Ok(Next::End);
     }
     if got < 4 {
-        return Next::Cut;
+        return Ok(Next::Cut);
     }
     let length = fields::be_u32(&head);
-    if !take(db, length as usize) {
-        return Next::Cut;
+    if !take(from, db, length as usize)? {
+        return Ok(Next::Cut);
     }
-    Next::Bytes(length)
+    Ok(Next::Bytes(length))
 }
 
 // Reads n bytes of the stream to the start of db, and answers whether they were all there. Of more bytes than db holds
 // the first are lost.
-fn take(db: &mut [u8], n: usize) -> bool {
+fn take<R: Read>(from: &mut R, db: &mut [u8], n: usize) -> io::Result<bool> {
     let mut left = n;
     while db.len() < left {
-        let got = io::read_full(STDIN_FILENO, db);
+        let got = read_full(from, db)?;
         if got == 0 {
-            return false;
+            return Ok(false);
         }
         left -= got;
     }
-    io::read_full(STDIN_FILENO, &mut db[0..left]) == left
+    let got = read_full(from, &mut db[0..left])?;
+    Ok(got == left)
 }

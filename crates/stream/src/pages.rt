@@ -2,8 +2,11 @@
 use crate::telling::Telling;
 use crate::{file, old};
 use reading::Reading;
+use std::io;
+use std::io::Write;
 
-pub fn pages(
+pub fn pages<W: Write>(
+    to: &mut W,
     db: &[u8],
     out: &mut [u8],
     at: usize,
@@ -11,26 +14,27 @@ pub fn pages(
     telling: Telling,
     first: u32,
     last: usize,
-) -> usize {
+) -> io::Result<usize> {
     let mut n = at;
     let mut number = first;
     while number < u32::MAX && number as usize <= last {
-        n = page(db, out, n, reading, telling, number);
+        n = page(to, db, out, n, reading, telling, number)?;
         number += 1;
     }
-    n
+    Ok(n)
 }
 
-fn page(
+fn page<W: Write>(
+    to: &mut W,
     db: &[u8],
     out: &mut [u8],
     at: usize,
     reading: Reading,
     telling: Telling,
     number: u32,
-) -> usize {
+) -> io::Result<usize> {
     match reading {
-        Reading::Old => old::page(db, out, at, telling, number),
-        Reading::File => file::page(db, out, at, number),
+        Reading::Old => old::page(to, db, out, at, telling, number),
+        Reading::File => file::page(to, db, out, at, number),
     }
 }
