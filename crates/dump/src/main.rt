@@ -2,7 +2,8 @@
 #![tactic(auto)]
 
 use reading::Reading;
+use std::io;
 
-fn main() {
-    stream::run(Reading::Old);
+fn main(rt: HostRuntime) -> io::Result<()> {
+    stream::run(&mut rt.stdin(), &mut rt.stdout(), Reading::Old)
 }

@@ -3,73 +3,77 @@
 // as an entry of kind 255.
 #![tactic(auto)]
 
-use libc::STDIN_FILENO;
 use place::Page;
+use print::input::read_full;
+use print::{number, signed, text};
+use std::io;
+use std::io::Write;
 use table::PageAnswer;
 
-fn main() {
-    let mut buffer = io::large_buffer();
-    let n = io::read_full(STDIN_FILENO, &mut buffer);
+fn main(rt: HostRuntime) -> io::Result<()> {
+    let mut buffer = [0u8; 65_536];
+    let n = read_full(&mut rt.stdin(), &mut buffer)?;
     let db = &buffer[..n];
-    print::text(b"old page 0\n");
-    show_page(db, place::old(0));
-    print::text(b"old page 1\n");
-    show_page(db, place::old(1));
-    print::text(b"file page 0\n");
-    show_page(db, place::file(0));
-    print::text(b"file page 1\n");
-    show_page(db, place::file(1));
+    let mut to = rt.stdout();
+    text(&mut to, b"old page 0\n")?;
+    show_page(&mut to, db, place::old(0))?;
+    text(&mut to, b"old page 1\n")?;
+    show_page(&mut to, db, place::old(1))?;
+    text(&mut to, b"file page 0\n")?;
+    show_page(&mut to, db, place::file(0))?;
+    text(&mut to, b"file page 1\n")?;
+    show_page(&mut to, db, place::file(1))
 }
 
 // The answer, and the first three places of the table.
-fn show_page(db: &[u8], asked: Page) {
-    show_answer(db, asked);
-    show_place(db, asked, 0);
-    show_place(db, asked, 1);
-    show_place(db, asked, 2);
+fn show_page<W: Write>(to: &mut W, db: &[u8], asked: Page) -> io::Result<()> {
+    show_answer(to, db, asked)?;
+    show_place(to, db, asked, 0)?;
+    show_place(to, db, asked, 1)?;
+    show_place(to, db, asked, 2)
 }
 
-fn show_answer(db: &[u8], asked: Page) {
+fn show_answer<W: Write>(to: &mut W, db: &[u8], asked: Page) -> io::Result<()> {
     let probed = probe::probe(db, asked, 0);
     let answer = probed.answer;
     match answer {
         PageAnswer::Shown(head) => {
-            print::text(b"  shown, kind ");
-            print::number(head.kind as u64);
-            print::text(b", cells ");
-            print::number(head.cells as u64);
-            print::text(b", content from ");
-            print::number(head.content_start as u64);
-            print::text(b"\n");
+            text(to, b"  shown, kind ")?;
+            number(to, head.kind as u64)?;
+            text(to, b", cells ")?;
+            number(to, head.cells as u64)?;
+            text(to, b", content from ")?;
+            number(to, head.content_start as u64)?;
+            text(to, b"\n")
         }
         PageAnswer::Refused(refusal) => {
             let numbers = answers::numbers_of(refusal);
-            print::text(b"  refused ");
-            print::number(numbers.number as u64);
-            print::text(b", page ");
-            print::number(numbers.page as u64);
-            print::text(b"\n");
+            text(to, b"  refused ")?;
+            number(to, numbers.number as u64)?;
+            text(to, b", page ")?;
+            number(to, numbers.page as u64)?;
+            text(to, b"\n")
         }
     }
 }
 
 // Place `i`: kind, pointer, child, payload size, row number, header size, columns.
-fn show_place(db: &[u8], asked: Page, i: usize) {
+fn show_place<W: Write>(to: &mut W, db: &[u8], asked: Page, i: usize) -> io::Result<()> {
     let probed = probe::probe(db, asked, i);
     let entry = probed.entry;
-    print::text(b"  ");
-    print::number(entry.kind as u64);
-    spaced(entry.pointer as u64);
-    spaced(entry.child as u64);
-    spaced(entry.payload_size);
-    print::text(b" ");
-    print::signed(entry.row);
-    spaced(entry.header_size);
-    spaced(entry.columns as u64);
-    print::text(b"\n");
+    text(to, b"  ")?;
+    number(to, entry.kind as u64)?;
+    spaced(to, entry.pointer as u64)?;
+    spaced(to, entry.child as u64)?;
+    spaced(to, entry.payload_size)?;
+    text(to, b" ")?;
+    signed(to, entry.row)?;
+    spaced(to, entry.header_size)?;
+    spaced(to, entry.columns as u64)?;
+    text(to, b"\n")
 }
 
-fn spaced(n: u64) {
-    print::text(b" ");
-    print::number(n);
+fn spaced<W: Write>(to: &mut W, n: u64) -> io::Result<()> {
+    text(to, b" ")?;
+    number(to, n)
 }

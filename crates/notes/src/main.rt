@@ -3,63 +3,72 @@
 #![tactic(auto)]
 
 use answers::Refusal;
-use libc::STDIN_FILENO;
+use print::input::read_full;
+use print::{number, text};
 use spilled::ValueAnswer;
 use spills::Source;
+use std::io;
+use std::io::Write;
 use values::file::Value;
 
-fn main() {
-    let mut buffer = io::large_buffer();
-    let n = io::read_full(STDIN_FILENO, &mut buffer);
+fn main(rt: HostRuntime) -> io::Result<()> {
+    let mut buffer = [0u8; 65_536];
+    let n = read_full(&mut rt.stdin(), &mut buffer)?;
     let db = &buffer[..n];
-    print::text(b"a note on its page\n");
-    show(db, 0);
-    print::text(b"a note that spills\n");
-    show(db, 1);
-    print::text(b"a note whose chain is damaged\n");
-    show(db, 2);
+    let mut to = rt.stdout();
+    text(&mut to, b"a note on its page\n")?;
+    show(&mut to, db, 0)?;
+    text(&mut to, b"a note that spills\n")?;
+    show(&mut to, db, 1)?;
+    text(&mut to, b"a note whose chain is damaged\n")?;
+    show(&mut to, db, 2)
 }
 
 // The note of row `i` of the table, which is its third column.
-fn show(db: &[u8], i: usize) {
-    let mut gather = io::large_buffer();
+fn show<W: Write>(to: &mut W, db: &[u8], i: usize) -> io::Result<()> {
+    let mut gather = [0u8; 65_536];
     let answer = spilled::value(db, 2, i, 2, &mut gather);
-    print::text(b"  file ");
-    shown(db, &gather, answer);
+    text(to, b"  file ")?;
+    shown(to, db, &gather, answer)?;
     let answer = marked::value(db, 2, i, 2, &mut gather);
-    print::text(b"  guarded ");
-    shown(db, &gather, answer);
+    text(to, b"  guarded ")?;
+    shown(to, db, &gather, answer)
 }
 
-fn shown<'a>(db: &'a [u8], gather: &'a [u8], answer: ValueAnswer) {
+fn shown<'a, W: Write>(
+    to: &mut W,
+    db: &'a [u8],
+    gather: &'a [u8],
+    answer: ValueAnswer,
+) -> io::Result<()> {
     match answer {
-        ValueAnswer::Refused(refusal) => refused(refusal),
+        ValueAnswer::Refused(refusal) => refused(to, refusal),
         ValueAnswer::Shown { value, source } => {
             if let Value::Text { at, len } = value {
-                from(source);
-                print::text(spills::bytes_of(db, gather, source, at, len));
-                print::text(b"\n");
+                from(to, source)?;
+                text(to, spills::bytes_of(db, gather, source, at, len))?;
+                text(to, b"\n")
             } else {
-                print::text(b"no text\n");
+                text(to, b"no text\n")
             }
         }
     }
 }
 
-fn from(source: Source) {
+fn from<W: Write>(to: &mut W, source: Source) -> io::Result<()> {
     match source {
-        Source::Database => print::text(b"in the database: "),
-        Source::Buffer => print::text(b"in the buffer: "),
+        Source::Database => text(to, b"in the database: "),
+        Source::Buffer => text(to, b"in the buffer: "),
     }
 }
 
-fn refused(refusal: Refusal) {
+fn refused<W: Write>(to: &mut W, refusal: Refusal) -> io::Result<()> {
     let numbers = answers::numbers_of(refusal);
-    print::text(b"refused ");
-    print::number(numbers.number as u64);
-    print::text(b", page ");
-    print::number(numbers.page as u64);
-    print::text(b", mark ");
-    print::number(numbers.mark as u64);
-    print::text(b"\n");
+    text(to, b"refused ")?;
+    number(to, numbers.number as u64)?;
+    text(to, b", page ")?;
+    number(to, numbers.page as u64)?;
+    text(to, b", mark ")?;
+    number(to, numbers.mark as u64)?;
+    text(to, b"\n")
 }

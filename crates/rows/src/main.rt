@@ -6,41 +6,56 @@
 // taken; no bytes at all; and a header that the file reading refuses.
 #![tactic(auto)]
 
-use libc::STDIN_FILENO;
+use std::env::{Env, FillError};
+use std::fs::File;
+use std::{fmt, io, str};
 
-fn main() {
-    let count = os::arg_count();
-    if count < 2 {
-        lines::run(STDIN_FILENO);
-        return;
-    }
-    files(count);
-}
-
-// Argument 0 is the program's own name.
-fn files(count: usize) {
-    for i in 1..count {
-        file(i);
+fn main(rt: HostRuntime) -> io::Result<()> {
+    let mut name = [0u8; 4_096];
+    match rt.arg(1, &mut name) {
+        Err(FillError::NotPresent) => lines::run(&mut rt.stdin(), &mut rt.stdout()),
+        _ => files(&rt),
     }
 }
 
-fn file(i: usize) {
-    let mut name = io::buffer();
-    let n = os::arg(i, &mut name);
-    let fd = opened(&name[..n]);
-    if fd < 0 {
-        os::fail(b"rows");
-        return;
+// Argument 0 is the program's own name, and no file has a name that is longer than the buffer.
+fn files(rt: &HostRuntime) -> io::Result<()> {
+    let mut name = [0u8; 4_096];
+    for i in 1..usize::MAX {
+        match rt.arg(i, &mut name) {
+            Ok(n) => file(rt, &name[..n])?,
+            Err(FillError::TooLong) => file(rt, b"")?,
+            Err(FillError::NotPresent) => break,
+        }
     }
-    lines::run(fd);
-    libc::close(fd);
+    Ok(())
 }
 
-fn opened(name: &[u8]) -> i32 {
+fn file(rt: &HostRuntime, name: &[u8]) -> io::Result<()> {
     if is_dash(name) {
-        return STDIN_FILENO;
+        return lines::run(&mut rt.stdin(), &mut rt.stdout());
     }
-    os::open_read(name)
+    match opened(rt, name) {
+        Ok(mut from) => lines::run(&mut from, &mut rt.stdout()),
+        Err(why) => fail(rt, why),
+    }
+}
+
+fn opened(rt: &HostRuntime, name: &[u8]) -> io::Result<File> {
+    match str::from_utf8(name) {
+        Ok(path) => File::open(rt, path),
+        Err(_) => Err(io::Error::from(io::ErrorKind::InvalidFilename)),
+    }
+}
+
+// A line on standard error: why a file is not shown, in the system's words, without its number. The next one is shown.
+fn fail(rt: &HostRuntime, why: io::Error) -> io::Result<()> {
+    let told = fmt::InlineText::<256>::of(why);
+    let words = told.as_str();
+    match words.split_once(" (os error ") {
+        Some((said, _)) => eprintln!(rt; "rows: {said}"),
+        None => eprintln!(rt; "rows: {words}"),
+    }
 }
 
 fn is_dash(name: &[u8]) -> bool {
