@@ -21,9 +21,17 @@ fn main(rt: HostRuntime) -> io::Result<()> {
 // Argument 0 is the program's own name, and no file has a name that is longer than the buffer.
 fn files(rt: &HostRuntime) -> io::Result<()> {
     let mut name = [0u8; 4_096];
+    let mut unread = true;
     for i in 1..usize::MAX {
         match rt.arg(i, &mut name) {
-            Ok(n) => file(rt, &name[..n])?,
+            Ok(n) => {
+                if is_dash(&name[..n]) {
+                    input(rt, unread)?;
+                    unread = false;
+                } else {
+                    file(rt, &name[..n])?;
+                }
+            }
             Err(FillError::TooLong) => file(rt, b"")?,
             Err(FillError::NotPresent) => break,
         }
@@ -31,10 +39,15 @@ fn files(rt: &HostRuntime) -> io::Result<()> {
     Ok(())
 }
 
-fn file(rt: &HostRuntime, name: &[u8]) -> io::Result<()> {
-    if is_dash(name) {
+// Standard input is one database. Named again it has no bytes, also where it is too long to be read to its end.
+fn input(rt: &HostRuntime, unread: bool) -> io::Result<()> {
+    if unread {
         return lines::run(&mut rt.stdin(), &mut rt.stdout());
     }
+    lines::run(&mut io::empty(), &mut rt.stdout())
+}
+
+fn file(rt: &HostRuntime, name: &[u8]) -> io::Result<()> {
     match opened(rt, name) {
         Ok(mut from) => lines::run(&mut from, &mut rt.stdout()),
         Err(why) => fail(rt, why),
