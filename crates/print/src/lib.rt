@@ -1,15 +1,17 @@
 // What our programs write with: text, numbers and bytes, at once or (`out`) gathered in a buffer. And (`input`) what they read with.
 //
 // A writer is lent to each function. Where its bytes are known, as those of one over memory are, the contracts say what is
-// appended to them; of a system's file no contract can. Those of `out` promise what they gather. A write that fails is told.
+// appended to them, and that it is a beginning of that where a write failed; of a system's file no contract can. Those of `out` promise
+// what they gather.
 #![tactic(auto)]
 
 mod digits;
 pub mod input;
 pub mod out;
 
-ghost use Rattle.std.specs.Prelude.{◌≡◌, ◌*◌, ◌<◌, ◌≤◌, OnOk, nat_abs, length, take};
+ghost use Rattle.std.specs.Prelude.{◌≡◌, ◌*◌, ◌<◌, ◌≤◌, OnErr, OnOk, nat_abs, length, take};
 ghost use Rattle.std.specs.Io.KnownBytes.{Appends};
+ghost use Rattle.print.specs.Begun.{AppendsBeginning};
 ghost use Rattle.print.specs.Digits.{hex_digit_ascii};
 ghost use Rattle.print.specs.Hex.{hex_of};
 ghost use Rattle.print.specs.Text.{bits_of, decimal_of, signed_of};
@@ -20,13 +22,23 @@ use std::io::Write;
 
 pub fn text<W: Write>(to: &mut W, s: &[u8]) -> io::Result<()>
     ensures written { OnOk result (Appends (W.contents to.old) (W.contents to.new) s.now) }
+    ensures begun { OnErr result (AppendsBeginning (W.contents to.old) (W.contents to.new) s.now) }
 {
-    to.write_all(s)
+    let mut at: usize = 0;
+    while at < s.len() {
+        let n = to.write(&s[at..])?;
+        if n == 0 {
+            return Err(io::Error::from(io::ErrorKind::WriteZero));
+        }
+        at += n;
+    }
+    Ok(())
 }
 
 // In decimal.
 pub fn number<W: Write>(to: &mut W, n: u64) -> io::Result<()>
     ensures written { OnOk result (Appends (W.contents to.old) (W.contents to.new) (decimal_of n)) }
+    ensures begun { OnErr result (AppendsBeginning (W.contents to.old) (W.contents to.new) (decimal_of n)) }
 {
     let mut digits = [0u8; 20];
     let from = decimal(n, &mut digits);
@@ -36,10 +48,12 @@ pub fn number<W: Write>(to: &mut W, n: u64) -> io::Result<()>
 // In decimal, with a `-` before a number below zero.
 pub fn signed<W: Write>(to: &mut W, z: i64) -> io::Result<()>
     ensures written { OnOk result (Appends (W.contents to.old) (W.contents to.new) (signed_of z)) }
+    ensures begun { OnErr result (AppendsBeginning (W.contents to.old) (W.contents to.new) (signed_of z)) }
 {
     let size = magnitude(z);
     if z < 0 {
         text(to, b"-")?;
+        return number(to, size);
     }
     number(to, size)
 }
@@ -57,6 +71,7 @@ fn magnitude(z: i64) -> u64
 // All 64 bits, as 16 hexadecimal digits in lower case.
 pub fn bits<W: Write>(to: &mut W, n: u64) -> io::Result<()>
     ensures written { OnOk result (Appends (W.contents to.old) (W.contents to.new) (bits_of n)) }
+    ensures begun { OnErr result (AppendsBeginning (W.contents to.old) (W.contents to.new) (bits_of n)) }
 {
     let mut digits = [0u8; 16];
     hexadecimal(n, &mut digits);
@@ -69,6 +84,7 @@ const CHUNK: usize = 32;
 // Every byte as two hexadecimal digits in lower case, with nothing between.
 pub fn hex<W: Write>(to: &mut W, s: &[u8]) -> io::Result<()>
     ensures written { OnOk result (Appends (W.contents to.old) (W.contents to.new) (hex_of s.now)) }
+    ensures begun { OnErr result (AppendsBeginning (W.contents to.old) (W.contents to.new) (hex_of s.now)) }
 {
     let mut at: usize = 0;
     while CHUNK < s.len() - at {
@@ -83,6 +99,7 @@ pub fn hex<W: Write>(to: &mut W, s: &[u8]) -> io::Result<()>
 fn chunk<W: Write>(to: &mut W, s: &[u8]) -> io::Result<()>
     requires { length s.now ≤ 32 }
     ensures written { OnOk result (Appends (W.contents to.old) (W.contents to.new) (hex_of s.now)) }
+    ensures begun { OnErr result (AppendsBeginning (W.contents to.old) (W.contents to.new) (hex_of s.now)) }
 {
     let mut out = [0u8; 2 * CHUNK];
     let n = spell(s, &mut out);

@@ -5,6 +5,7 @@
 // put before it.
 ghost use Rattle.std.specs.Prelude.{◌≡◌, [], ◌∷◌, ◌++◌, IfOk, OnOk, OnErr, take};
 ghost use Rattle.std.specs.Io.KnownBytes.{Appends};
+ghost use Rattle.print.specs.Begun.{AppendsBeginning};
 ghost use Rattle.print.specs.Hex.{hex_of};
 ghost use Rattle.print.specs.Gathered.{HoldsBeginning, gathered, puts};
 ghost use Rattle.print.specs.Text.{bits_of, decimal_of, field_of, refused_of, signed_of};
@@ -16,11 +17,12 @@ use std::io::Write;
 // Writes what waits.
 pub fn flush<W: Write>(to: &mut W, out: &[u8], at: usize) -> io::Result<()>
     ensures written { OnOk result (Appends (W.contents to.old) (W.contents to.new) (take at out.now)) }
+    ensures begun { OnErr result (AppendsBeginning (W.contents to.old) (W.contents to.new) (take at out.now)) }
 {
     if at < out.len() {
-        return to.write_all(&out[0..at]);
+        return crate::text(to, &out[0..at]);
     }
-    to.write_all(out)
+    crate::text(to, out)
 }
 
 // A buffer that is full is written first.
