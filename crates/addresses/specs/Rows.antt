@@ -1,24 +1,24 @@
 -- A screenful worked by hand, over a single call that is made for it: it shows page, cell and column as the digits of a number, a
 -- blob in column 7, and refuses columns 8 and 9.
-use Rattle.std.specs.Prelude.{ℕ, ◌+◌, ◌*◌, ◌^◌, ◌≡◌, List, [], ◌∷◌, ◌++◌, eqb, ℤ, pos, length, replicate}
+use Rattle.std.specs.Prelude.{ℕ, ◌+◌, ◌*◌, ◌^◌, ◌≡◌, List, [], ◌∷◌, ◌++◌, eqb, ℤ, pos, length, replicate, Err, Ok, Result}
 use Rattle.laws.specs.Pick.{pick}
 use Rattle.answers.specs.declared.Fault.TheVariants.{TypeReserved, Marked}
 use Rattle.answers.specs.declared.Mark.TheVariants.{StoredOne}
 use Rattle.answers.specs.declared.Refusal.TheVariants.{InCell}
 use Rattle.values.specs.declared.old.Value.TheVariants.{I16, Blob}
-use Rattle.row_values.specs.declared.old.ValueAnswer.{ValueAnswer}
-use Rattle.row_values.specs.declared.old.ValueAnswer.TheVariants as answer
 use Rattle.turns.specs.declared.types.Shown.{Shown}
 use Rattle.turns.specs.declared.types.Screened.{Screened}
 use Rattle.turns.specs.Shown.{old_shown}
 use Rattle.addresses.specs.Screen.{Address, answered_by, screened}
+use Rattle.answers.specs.declared.Refusal.{Refusal}
+use Rattle.values.specs.declared.old.Value.{Value}
 
-abbrev pub shown_in : ℕ → ℕ → ℕ → ValueAnswer
+abbrev pub shown_in : ℕ → ℕ → ℕ → Result Value Refusal
 shown_in page cell column =
-    pick (eqb column 9) (answer.Refused (InCell page cell (TypeReserved 2)))
-    (pick (eqb column 8) (answer.Refused (InCell page cell (Marked StoredOne)))
-    (pick (eqb column 7) (answer.Shown (Blob 40 5))
-    (answer.Shown (I16 (pos (100 * page + 10 * cell + column))))))
+    pick (eqb column 9) (Err (InCell page cell (TypeReserved 2)))
+    (pick (eqb column 8) (Err (InCell page cell (Marked StoredOne)))
+    (pick (eqb column 7) (Ok (Blob 40 5))
+    (Ok (I16 (pos (100 * page + 10 * cell + column))))))
 
 abbrev pub single : Address → Shown
 single a = old_shown (shown_in a.page a.cell a.column)

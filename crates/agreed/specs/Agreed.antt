@@ -1,15 +1,13 @@
 -- A table that both may trust, of every database and root page. `rows_of (table_of root db)` are the rows that the walk lists.
-use Rattle.std.specs.Prelude.{ℕ, ◌-◌, ◌≡◌, List, [], ◌∷◌, ◌⊎◌}
+use Rattle.std.specs.Prelude.{ℕ, ◌-◌, ◌≡◌, List, [], ◌∷◌, ◌⊎◌, Err, Ok, Result}
 use Rattle.answers.specs.declared.Refusal.{Refusal}
-use Rattle.walk.specs.declared.CountAnswer.{CountAnswer}
-use Rattle.walk.specs.declared.CountAnswer.TheVariants.{Shown, Refused}
 use Rattle.trace.specs.Walk.{Row, rows_of}
 use Rattle.trace.specs.Tree.{table_of}
 use Rattle.walk.specs.Counted.{count_of}
-use Rattle.trees.specs.Trees.{Each}
 use Rattle.agreement.specs.Shows as shows
 use Rattle.agreement.specs.Shows.{Meaning, row, none, old_shows, file_shows, guarded_shows}
 use Rattle.trust.specs.Trust.{trusted_count}
+use Rattle.trees.specs.Trees.{Each}
 use Rattle.listing.specs.Listed.{list_of, trusted_of}
 
 -- THEOREM: if the listing is given, every listed row is one and the same in all three readings, under the number that is listed
@@ -21,7 +19,7 @@ pub record Same (db : List ℕ) (r : Row) : Type 0 where
   pub old : old_shows (r.page - 1) r.cell db ≡ row r.number values
 
 abbrev pub TrustedAgrees : Type 0
-TrustedAgrees = (places root : ℕ) (db : List ℕ) (n : ℕ) → trusted_of places root db ≡ Shown n → Each (Same db) (rows_of (table_of root db))
+TrustedAgrees = (places root : ℕ) (db : List ℕ) (n : ℕ) → trusted_of places root db ≡ Ok n → Each (Same db) (rows_of (table_of root db))
 
 -- THEOREM: it is given exactly when the walk's listing is and the guarded reading refuses none of the rows; so it is with the count
 
@@ -32,10 +30,10 @@ IsRow (row number values) = Unit
 abbrev pub NoneRefused : List ℕ → List Row → Type 0
 NoneRefused db rows = Each (λ r. IsRow (guarded_shows r.page r.cell db)) rows
 
-abbrev pub Exactly : List ℕ → List Row → CountAnswer → CountAnswer → Type 0
+abbrev pub Exactly : List ℕ → List Row → Result ℕ Refusal → Result ℕ Refusal → Type 0
 Exactly db rows walked trusted = (n : ℕ)
-    → (trusted ≡ Shown n → (walked ≡ Shown n) × NoneRefused db rows)
-    × (walked ≡ Shown n → NoneRefused db rows → trusted ≡ Shown n)
+    → (trusted ≡ Ok n → (walked ≡ Ok n) × NoneRefused db rows)
+    × (walked ≡ Ok n → NoneRefused db rows → trusted ≡ Ok n)
 
 abbrev pub GivenExactly : Type 0
 GivenExactly = (places root : ℕ) (db : List ℕ)
@@ -50,13 +48,13 @@ FirstRefused db refusal (r ∷ rows) =
     (guarded_shows r.page r.cell db ≡ none refusal)
     ⊎ (IsRow (guarded_shows r.page r.cell db) × FirstRefused db refusal rows)
 
-abbrev pub IsShown : CountAnswer → Type 0
-IsShown (Shown n) = Unit
-IsShown (Refused refusal) = ⊥
+abbrev pub IsShown : Result ℕ Refusal → Type 0
+IsShown (Ok n) = Unit
+IsShown (Err refusal) = ⊥
 
-abbrev pub Told : List ℕ → List Row → CountAnswer → CountAnswer → Type 0
-Told db rows walked trusted = (refusal : Refusal) → trusted ≡ Refused refusal
-    → (walked ≡ Refused refusal) ⊎ (IsShown walked × FirstRefused db refusal rows)
+abbrev pub Told : List ℕ → List Row → Result ℕ Refusal → Result ℕ Refusal → Type 0
+Told db rows walked trusted = (refusal : Refusal) → trusted ≡ Err refusal
+    → (walked ≡ Err refusal) ⊎ (IsShown walked × FirstRefused db refusal rows)
 
 abbrev pub RefusedFirst : Type 0
 RefusedFirst = (places root : ℕ) (db : List ℕ)

@@ -11,10 +11,8 @@ use lib.Seq.{take_all}
 use borrow.Author.Tests.{ltb-false, le-ltb}
 use Rattle.laws.proofs.Bools.{neither}
 use Rattle.reading.specs.declared.Reading.TheVariants.{Old as old, File as file}
-use Rattle.answers.specs.Answer.{shown}
 use Rattle.kinds.specs.declared.Kind.TheVariants.{LeafTable}
 use Rattle.cell.specs.Cell.{cell_of}
-use Rattle.marks.specs.declared.Marking.TheVariants.{Clear}
 use Rattle.marks.specs.Marks.{mark_of}
 use Rattle.marks.proofs.Same.{with_payload, same-cell}
 use Rattle.place.specs.declared.Page.{Page}
@@ -29,8 +27,9 @@ use Rattle.cells.specs.Pointers.{outside, part_at}
 use Rattle.cells.specs.Located.{Located, located_in, located_of}
 use Rattle.cells.proofs.Laws.{Held, held, held-again, located-open}
 use Rattle.agreement.proofs.Pages.{as_old, old-opens}
+use Rattle.std.specs.Prelude.{None, Ok}
 
-module _ (n i : ℕ) (db : List ℕ) {o : Open} {l : Located} (opened : open_of (file_page n) db ≡ shown o) (located : located_in o i db ≡ shown l)
+module _ (n i : ℕ) (db : List ℕ) {o : Open} {l : Located} (opened : open_of (file_page n) db ≡ Ok o) (located : located_in o i db ≡ Ok l)
     (leaf : o.kind ≡ LeafTable) where
   there : Held o i db l
   there = held o i db located
@@ -38,7 +37,7 @@ module _ (n i : ℕ) (db : List ℕ) {o : Open} {l : Located} (opened : open_of 
   pub by-file : o.page ≡ file_page n
   by-file = open-page (file_page n) db opened
 
-  old-open : open_of (old_page (n - 1)) db ≡ shown (as_old n o)
+  old-open : open_of (old_page (n - 1)) db ≡ Ok (as_old n o)
   old-open = old-opens n db opened
 
   abbrev page : List ℕ
@@ -80,7 +79,7 @@ module _ (n i : ℕ) (db : List ℕ) {o : Open} {l : Located} (opened : open_of 
 
   -- THE CELL
 
-  pub file-cell : cell_of file LeafTable o.end part ≡ shown l.cell
+  pub file-cell : cell_of file LeafTable o.end part ≡ Ok l.cell
   file-cell =
       let e : cell_of file LeafTable o.end part ≡ cell_of o.page.reading o.kind o.end part = rw (by-file, leaf) in e ∙ there.cell
 
@@ -88,11 +87,11 @@ module _ (n i : ℕ) (db : List ℕ) {o : Open} {l : Located} (opened : open_of 
   old-bytes = rw (part-on, leaf)
 
   -- the cell that the old reading locates, if it does
-  pub old-cell : {l' : Located} → located_of (old_page (n - 1)) i db ≡ shown l' → cell_of old LeafTable o.size (part ++ more) ≡ shown l'.cell
+  pub old-cell : {l' : Located} → located_of (old_page (n - 1)) i db ≡ Ok l' → cell_of old LeafTable o.size (part ++ more) ≡ Ok l'.cell
   old-cell {l'} e =
       let h = held (as_old n o) i db (sym (located-open (old_page (n - 1)) i db old-open) ∙ e) in
       let q : l'.pointer ≡ l.pointer = h.pointer ∙ sym there.pointer in
-      sym old-bytes ∙ subst (λ (p : ℕ). cell_of old o.kind o.size (part_at (as_old n o) p page) ≡ shown l'.cell) q h.cell
+      sym old-bytes ∙ subst (λ (p : ℕ). cell_of old o.kind o.size (part_at (as_old n o) p page) ≡ Ok l'.cell) q h.cell
 
   -- where there is no mark: the same cell, with all that stands behind its numbers as its payload
   abbrev pub old_located : Located
@@ -103,7 +102,7 @@ module _ (n i : ℕ) (db : List ℕ) {o : Open} {l : Located} (opened : open_of 
         cell = with_payload (length (drop l.cell.numbers.length (part ++ more))) l.cell;
       }
 
-  pub old-shown : mark_of l.cell ≡ Clear → located_of (old_page (n - 1)) i db ≡ shown old_located
+  pub old-shown : mark_of l.cell ≡ None → located_of (old_page (n - 1)) i db ≡ Ok old_located
   old-shown clear =
       located-open (old_page (n - 1)) i db old-open
       ∙ held-again (as_old n o) i db (record {

@@ -5,15 +5,12 @@ use mathlib.Core.Path.{◌≡◌, sym, ap, subst, ◌∙◌}
 use mathlib.Core.List.{List}
 use native.Mathlib.Omega.{arith}
 use lib.ListN.{drop}
-use Rattle.answers.specs.Answer.{shown}
 use Rattle.record.specs.Types.{count, nth_type, walk}
 use Rattle.record.specs.Record.{values_at}
 use Rattle.record.proofs.Room.{Past, fits-past}
 use Rattle.kinds.specs.declared.Kind.TheVariants.{LeafTable}
-use Rattle.columns.specs.declared.Slot.TheVariants.{Found}
 use Rattle.columns.specs.Columns.{slot_in}
 use Rattle.columns.proofs.Extents.{past-found, found_type, past_same}
-use Rattle.marks.specs.declared.Marking.TheVariants.{Clear}
 use Rattle.marks.specs.Marks.{mark_of}
 use Rattle.marks.proofs.Same.{Unmarked, clear}
 use Rattle.marks.proofs.Differ.{none-otherwise}
@@ -28,6 +25,8 @@ use Rattle.row.proofs.Placed.{Placed, placed-in, placed}
 use Rattle.agreement.proofs.Values.{value_same}
 use Rattle.agreement.proofs.Cells.{by-file, old_located, old-shown}
 use Rattle.agreement.proofs.Rows.{old_in, file_in, old_value, file_value}
+use Rattle.columns.specs.Columns.{slot_at}
+use Rattle.std.specs.Prelude.{None, Ok}
 
 -- A LOCATED CELL: every column of it is there
 
@@ -47,18 +46,18 @@ module _ {l : Located} {db : List ℕ} (there : Placed l db) where
   -- column k stands somewhere, with its type
   pub record Stands (k : ℕ) : Type 0 where
     pub at : ℕ
-    pub is : slot_on k l ≡ Found (nth_type k l.cell.types) at
+    pub is : slot_on k l ≡ slot_at (nth_type k l.cell.types) at
 
   pub stands : (k : ℕ) → k < count l.cell.types → Stands k
   stands k h =
       let found = past-found k 0 (from l) (end l) l.cell.types past h in
       let t = found_type k (from l) (end l) l.cell.types found.is in
-      record { at = found.at; is = found.is ∙ ap (λ (x : ℕ). Found x found.at) (sym t) }
+      record { at = found.at; is = found.is ∙ ap (λ (x : ℕ). slot_at x found.at) (sym t) }
 
 -- THE SAME CELL IN BOTH READINGS
 
-module _ (n i : ℕ) (db : List ℕ) {o : Open} {l : Located} (opened : open_of (file_page n) db ≡ shown o) (located : located_in o i db ≡ shown l)
-    (leaf : o.kind ≡ LeafTable) (none : mark_of l.cell ≡ Clear) where
+module _ (n i : ℕ) (db : List ℕ) {o : Open} {l : Located} (opened : open_of (file_page n) db ≡ Ok o) (located : located_in o i db ≡ Ok l)
+    (leaf : o.kind ≡ LeafTable) (none : mark_of l.cell ≡ None) where
   abbrev l' : Located
   l' = old_located n i db opened located leaf
 
@@ -79,7 +78,7 @@ module _ (n i : ℕ) (db : List ℕ) {o : Open} {l : Located} (opened : open_of 
       ap (λ (z : ℕ). slot_in k z (end l') l.cell.types) same_start
       ∙ past_same k 0 (from l) (end l') (end l) l.cell.types (subst (λ (z : ℕ). Past (walk 0 (end l' - z) l.cell.types)) same_start (past old-placed)) (past file-placed)
 
-  pub same-value : (k : ℕ) → k < count l.cell.types → old_value db (shown l') k ≡ file_value db (shown l) k
+  pub same-value : (k : ℕ) → k < count l.cell.types → old_value db (Ok l') k ≡ file_value db (Ok l) k
   same-value k h =
       let ts = l.cell.types in
       let here = stands file-placed k h in

@@ -6,7 +6,6 @@ use native.Mathlib.Omega.{arith}
 use lib.IntN.{ℤ}
 use lib.ListN.{drop}
 use Rattle.answers.specs.declared.Refusal.{Refusal}
-use Rattle.answers.specs.Answer.{Answer, shown}
 use Rattle.values.specs.Old as old
 use Rattle.values.specs.File as file
 use Rattle.values.specs.declared.old.Value as ov
@@ -24,6 +23,7 @@ use Rattle.agreement.specs.Agreement.{IsValue, AllValues, EachShown}
 use Rattle.guarded.proofs.Along.{file-located}
 use Rattle.agreement.proofs.Columns.{stands}
 use Rattle.agreement.proofs.Rows.{old_in, file_in, old_value, file_value, old-is, file-is, guarded-is, Shown, row-shown}
+use Rattle.std.specs.Prelude.{Ok, Result}
 
 old-value : (db : List ℕ) (v : ov.Value) → IsValue (old_means db v)
 old-value db ol.Null = tt
@@ -48,20 +48,20 @@ all_listed (suc n) f h = (h 0 (omega arith), all_listed n (λ k. f (suc k)) (λ 
 
 -- the values of a cell that lies in the bytes
 module _ (db : List ℕ) {l : Located} (there : Placed l db) (k : ℕ) (h : k < count l.cell.types) where
-  old-each : IsValue (old_value db (shown l) k)
+  old-each : IsValue (old_value db (Ok l) k)
   old-each =
       let s = stands there k h in
       subst IsValue (sym (ap (old_in db l.opened.page) s.is)) (old-value db (old.value_of (nth_type k l.cell.types) s.at (drop s.at db)))
 
-  file-each : IsValue (file_value db (shown l) k)
+  file-each : IsValue (file_value db (Ok l) k)
   file-each =
       let s = stands there k h in
       subst IsValue (sym (ap (file_in db l.opened.page) s.is)) (file-value db (file.value_of (nth_type k l.cell.types) s.at (drop s.at db)))
 
-all-values : (value : Answer Refusal Located → ℕ → Meaning) (x : Answer Refusal Located) {number : ℤ} {values : List Meaning} (r : Shown x (value x) number values)
-    → ((k : ℕ) → k < count r.l.cell.types → IsValue (value (shown r.l) k)) → AllValues values
+all-values : (value : Result Located Refusal → ℕ → Meaning) (x : Result Located Refusal) {number : ℤ} {values : List Meaning} (r : Shown x (value x) number values)
+    → ((k : ℕ) → k < count r.l.cell.types → IsValue (value (Ok r.l) k)) → AllValues values
 all-values value x r each =
-    rw (← r.values-are) (all_listed (count r.l.cell.types) (value x) (λ k h. subst (λ (y : Answer Refusal Located). IsValue (value y k)) (sym r.is) (each k h)))
+    rw (← r.values-are) (all_listed (count r.l.cell.types) (value x) (λ k h. subst (λ (y : Result Located Refusal). IsValue (value y k)) (sym r.is) (each k h)))
 
 pub each-shown : EachShown
 each-shown number i db row_number values = (

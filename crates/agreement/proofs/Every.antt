@@ -3,7 +3,6 @@ use mathlib.Core.Path.{◌≡◌, refl, ap, ◌∙◌}
 use mathlib.Core.Bool.{false}
 use Rattle.answers.specs.declared.Refusal.TheVariants.{InCell}
 use Rattle.answers.specs.declared.Fault.TheVariants as fa
-use Rattle.answers.specs.Answer.{refused}
 use Rattle.kinds.specs.declared.Kind.{Kind}
 use Rattle.kinds.specs.declared.Kind.TheVariants.{InteriorIndex, InteriorTable, LeafIndex, LeafTable}
 use Rattle.kinds.specs.Kind.{is_leaf_table}
@@ -12,6 +11,7 @@ use Rattle.cells.proofs.Laws.{held}
 use Rattle.guarded.specs.Guarded.{unmarked}
 use Rattle.guarded.proofs.Guard.{guarded_by, other-in, leaf-in, guarded-in, guarded-again}
 use Rattle.agreement.specs.Agreement.{EveryOpenGuarded}
+use Rattle.std.specs.Prelude.{Err}
 
 other-kind : (k : Kind) → (k ≡ LeafTable → ⊥) → is_leaf_table k ≡ false
 other-kind InteriorIndex n = refl
@@ -27,5 +27,5 @@ every-open-guarded o i db = (
   λ refusal k e. leaf-in o i db (ap is_leaf_table k) ∙ ap (guarded_by i) e,
   λ l mark k e m.
       leaf-in o i db (ap is_leaf_table k) ∙ ap (guarded_by i) e ∙ ap (unmarked i l) m
-      ∙ ap (λ (p : Open). refused (InCell p.page.number i (fa.Marked mark))) (held o i db e).opened,
+      ∙ ap (λ (p : Open). Err (InCell p.page.number i (fa.Marked mark))) (held o i db e).opened,
 )

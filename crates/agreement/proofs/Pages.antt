@@ -5,7 +5,6 @@ use mathlib.Core.List.{List}
 use native.Mathlib.Omega.{arith}
 use lib.ListN.{length}
 use Rattle.reading.specs.declared.Reading.TheVariants.{Old as old, File as file}
-use Rattle.answers.specs.Answer.{shown}
 use Rattle.header.specs.Header.{page_size_of}
 use Rattle.header.proofs.Laws.{old-passed}
 use Rattle.place.specs.declared.Page.{Page}
@@ -13,7 +12,6 @@ use Rattle.shape.specs.declared.Shape.{Shape}
 use Rattle.place.specs.Place.{old_page, file_page, page_at}
 use Rattle.place.proofs.Laws.{old-place}
 use Rattle.shape.proofs.Laws.{shape_in, shape-passed, shape-shown}
-use Rattle.site.specs.declared.KindAnswer.TheVariants.{Known}
 use Rattle.site.specs.declared.Site.{Site}
 use Rattle.page.specs.declared.Open.{Open}
 use Rattle.site.specs.Kinds.{kind_at}
@@ -21,6 +19,7 @@ use Rattle.site.specs.Site.{site_of}
 use Rattle.page.specs.Open.{open_from, open_of}
 use Rattle.site.proofs.Sites.{sited, site-again, site-end}
 use Rattle.page.proofs.Steps.{opening, open-again, open-site, steps}
+use Rattle.std.specs.Prelude.{Ok, Some}
 
 -- as the old reading has it: its cells may go on to the page's end
 abbrev site_as_old : ℕ → Site → Site
@@ -30,7 +29,7 @@ abbrev pub as_old : ℕ → Open → Open
 as_old n o =
     record { page = old_page (n - 1); at = o.at; size = o.size; end = o.size; from = o.from; kind = o.kind; cells = o.cells }
 
-old-site : (n : ℕ) (db : List ℕ) {s : Site} → site_of (file_page n) db ≡ shown s → site_of (old_page (n - 1)) db ≡ shown (site_as_old n s)
+old-site : (n : ℕ) (db : List ℕ) {s : Site} → site_of (file_page n) db ≡ Ok s → site_of (old_page (n - 1)) db ≡ Ok (site_as_old n s)
 old-site n db {s} e =
     let is = sited (file_page n) db e in
     let q = shape-shown file db is.shaped in
@@ -43,10 +42,10 @@ old-site n db {s} e =
       ended = is.sized ∙ size;
       placed = old-place n (length db) is.shape (shape_in old db) size is.placed;
       header = subst (λ (z : ℕ). s.from ≤ z) size is.header;
-      kinded = subst (λ (z : ℕ). kind_at s.from (page_at s.at z db) ≡ Known s.kind) size is.kinded;
+      kinded = subst (λ (z : ℕ). kind_at s.from (page_at s.at z db) ≡ Some s.kind) size is.kinded;
     })
 
-pub old-opens : (n : ℕ) (db : List ℕ) {o : Open} → open_of (file_page n) db ≡ shown o → open_of (old_page (n - 1)) db ≡ shown (as_old n o)
+pub old-opens : (n : ℕ) (db : List ℕ) {o : Open} → open_of (file_page n) db ≡ Ok o → open_of (old_page (n - 1)) db ≡ Ok (as_old n o)
 old-opens n db {o} e =
     let t = steps (file_page n) db e in
     let s = t.site in
@@ -54,9 +53,9 @@ old-opens n db {o} e =
     let short = site-end (file_page n) db (sited (file_page n) db t.first) in
     open-site (old_page (n - 1)) db (old-site n db t.first)
     ∙ open-again (site_as_old n s) db (omega (arith, f.pointers, short))
-    ∙ ap (λ (x : Open). shown (as_old n x)) (sym f.is)
+    ∙ ap (λ (x : Open). Ok (as_old n x)) (sym f.is)
 
 -- the kind is found in the first step
-pub open-kind : (page : Page) (db : List ℕ) {s : Site} {o : Open} → site_of page db ≡ shown s → open_of page db ≡ shown o → o.kind ≡ s.kind
+pub open-kind : (page : Page) (db : List ℕ) {s : Site} {o : Open} → site_of page db ≡ Ok s → open_of page db ≡ Ok o → o.kind ≡ s.kind
 open-kind page db {s} {o} q e =
-    let second : open_from s db ≡ shown o = sym (open-site page db q) ∙ e in ap (λ (x : Open). x.kind) (opening s db second).is
+    let second : open_from s db ≡ Ok o = sym (open-site page db q) ∙ e in ap (λ (x : Open). x.kind) (opening s db second).is

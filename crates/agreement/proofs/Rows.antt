@@ -7,9 +7,7 @@ use native.Mathlib.Omega.{arith}
 use lib.IntN.{ℤ}
 use Rattle.laws.proofs.Never.{never}
 use Rattle.answers.specs.declared.Refusal.{Refusal}
-use Rattle.answers.specs.Answer.{Answer, refused, shown}
 use Rattle.record.specs.Types.{count}
-use Rattle.columns.specs.declared.Slot.{Slot}
 use Rattle.place.specs.declared.Page.{Page}
 use Rattle.place.specs.Place.{old_page, file_page}
 use Rattle.cells.specs.Located.{Located, row_number, located_of}
@@ -22,26 +20,28 @@ use Rattle.row_values.proofs.Told.{old-shown-located, file-shown-located}
 use Rattle.guarded.specs.Guarded as guarded-calls
 use Rattle.guarded.proofs.Calls.{guarded-count-located, guarded-row-located, guarded-shown-located}
 use Rattle.agreement.specs.Shows.{Meaning, old_answer, file_answer, listed, Row, row, row_from, old_shows, file_shows, guarded_shows}
+use Rattle.columns.specs.declared.Slot.{Slot}
+use Rattle.std.specs.Prelude.{Err, Ok, Option, Result}
 
 -- what stands in a slot of a page's cell
-abbrev pub old_in : List ℕ → Page → Slot → Meaning
+abbrev pub old_in : List ℕ → Page → Option Slot → Meaning
 old_in db page slot = old_answer db (old-calls.shown_by db (slot_then page slot))
 
-abbrev pub file_in : List ℕ → Page → Slot → Meaning
+abbrev pub file_in : List ℕ → Page → Option Slot → Meaning
 file_in db page slot = file_answer db (file-calls.shown_by db (slot_then page slot))
 
 -- value k of a located cell
-abbrev pub old_value : List ℕ → Answer Refusal Located → ℕ → Meaning
+abbrev pub old_value : List ℕ → Result Located Refusal → ℕ → Meaning
 old_value db x k = old_answer db (old-calls.shown_by db (column_by k x))
 
-abbrev pub file_value : List ℕ → Answer Refusal Located → ℕ → Meaning
+abbrev pub file_value : List ℕ → Result Located Refusal → ℕ → Meaning
 file_value db x k = file_answer db (file-calls.shown_by db (column_by k x))
 
 -- the row of a located cell
-abbrev pub old_row : List ℕ → Answer Refusal Located → Row
+abbrev pub old_row : List ℕ → Result Located Refusal → Row
 old_row db x = row_from (count_by x) (row_by x) (old_value db x)
 
-abbrev pub file_row : List ℕ → Answer Refusal Located → Row
+abbrev pub file_row : List ℕ → Result Located Refusal → Row
 file_row db x = row_from (count_by x) (row_by x) (file_value db x)
 
 -- the three readings
@@ -68,16 +68,16 @@ module _ (page i : ℕ) (db : List ℕ) where
       (ap (row_from (count_by x) (row_by x)) (fun_ext (λ (k : ℕ). ap (file_answer db) (guarded-shown-located page i k db refl))))
 
 -- a row that is shown
-pub record Shown (x : Answer Refusal Located) (value : ℕ → Meaning) (number : ℤ) (values : List Meaning) : Type 0 where
+pub record Shown (x : Result Located Refusal) (value : ℕ → Meaning) (number : ℤ) (values : List Meaning) : Type 0 where
   pub l : Located
-  pub is : x ≡ shown l
+  pub is : x ≡ Ok l
   pub number_is : row_number l.cell.row.value ≡ number
   pub values-are : listed (count l.cell.types) value ≡ values
 
-pub row-shown : (x : Answer Refusal Located) (value : ℕ → Meaning) {number : ℤ} {values : List Meaning}
+pub row-shown : (x : Result Located Refusal) (value : ℕ → Meaning) {number : ℤ} {values : List Meaning}
     → row_from (count_by x) (row_by x) value ≡ row number values → Shown x value number values
-row-shown (refused refusal) value e = never cc
-row-shown (shown l) value e = record { l = l; is = refl; number_is = cc; values-are = cc }
+row-shown (Err refusal) value e = never cc
+row-shown (Ok l) value e = record { l = l; is = refl; number_is = cc; values-are = cc }
 
 -- LISTS
 

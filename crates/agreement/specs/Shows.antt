@@ -1,7 +1,7 @@
 -- What each reading shows of a cell, made of what its calls answer: a refusal, or a row number and as many values as the
 -- column count says. Values are held against each other by their meaning: integers by number, reals by bits, texts and
 -- blobs by byte.
-use Rattle.std.specs.Prelude.{ℕ, zero, suc, List, [], ◌∷◌, ℤ}
+use Rattle.std.specs.Prelude.{ℕ, zero, suc, List, [], ◌∷◌, ℤ, Err, Ok, Result}
 use Rattle.answers.specs.declared.Refusal.{Refusal}
 use Rattle.parts.specs.Part.{part_of}
 use Rattle.values.specs.declared.old.Value as ov
@@ -9,18 +9,12 @@ use Rattle.values.specs.declared.old.Value.TheVariants as ol
 use Rattle.values.specs.declared.file.Value as fv
 use Rattle.values.specs.declared.file.Value.TheVariants as fi
 use Rattle.place.specs.Place.{old_page, file_page}
-use Rattle.row_head.specs.declared.CountAnswer.{CountAnswer}
-use Rattle.row_head.specs.declared.CountAnswer.TheVariants as co
-use Rattle.row_head.specs.declared.RowNumberAnswer.{RowNumberAnswer}
-use Rattle.row_head.specs.declared.RowNumberAnswer.TheVariants as ro
-use Rattle.row_values.specs.declared.old.ValueAnswer as oa
-use Rattle.row_values.specs.declared.old.ValueAnswer.TheVariants as old
-use Rattle.row_values.specs.declared.file.ValueAnswer as fa
-use Rattle.row_values.specs.declared.file.ValueAnswer.TheVariants as file
 use Rattle.row_head.specs.Head.{count_of, row_of}
 use Rattle.row_values.specs.Old as old-calls
 use Rattle.row_values.specs.File as file-calls
 use Rattle.guarded.specs.Guarded as guarded-calls
+use Rattle.row_head.specs.declared.ColumnCount.{ColumnCount}
+use Rattle.row_head.specs.declared.RowNumber.{RowNumber}
 
 -- what a value says, whatever the width of its integer
 pub data Meaning : Type 0 where
@@ -48,13 +42,13 @@ file_means db (fi.Real number bits) = real bits
 file_means db (fi.Blob at len) = blob (part_of at len db)
 file_means db (fi.Text at len) = text (part_of at len db)
 
-abbrev pub old_answer : List ℕ → oa.ValueAnswer → Meaning
-old_answer db (old.Shown value) = old_means db value
-old_answer db (old.Refused refusal) = refused refusal
+abbrev pub old_answer : List ℕ → Result ov.Value Refusal → Meaning
+old_answer db (Ok value) = old_means db value
+old_answer db (Err refusal) = refused refusal
 
-abbrev pub file_answer : List ℕ → fa.ValueAnswer → Meaning
-file_answer db (file.Shown value) = file_means db value
-file_answer db (file.Refused refusal) = refused refusal
+abbrev pub file_answer : List ℕ → Result fv.Value Refusal → Meaning
+file_answer db (Ok value) = file_means db value
+file_answer db (Err refusal) = refused refusal
 
 -- the first n values
 abbrev pub listed : ℕ → (ℕ → Meaning) → List Meaning
@@ -65,10 +59,10 @@ pub data Row : Type 0 where
   none : Refusal → Row
   row : ℤ → List Meaning → Row
 
-abbrev pub row_from : CountAnswer → RowNumberAnswer → (ℕ → Meaning) → Row
-row_from (co.Refused refusal) number value = none refusal
-row_from (co.Shown n s) (ro.Refused refusal) value = none refusal
-row_from (co.Shown n s) (ro.Shown v t) value = row v (listed n value)
+abbrev pub row_from : Result ColumnCount Refusal → Result RowNumber Refusal → (ℕ → Meaning) → Row
+row_from (Err refusal) number value = none refusal
+row_from (Ok count) (Err refusal) value = none refusal
+row_from (Ok count) (Ok told) value = row told.number (listed count.columns value)
 
 -- pages count from 0
 unfoldable pub old_shows : ℕ → ℕ → List ℕ → Row

@@ -6,10 +6,11 @@
 #![tactic(auto)]
 
 ghost use Rattle.std.specs.Prelude.{◌≡◌};
+ghost use Rattle.answers.specs.declared.Refusal.TheVariants.{OfDatabase};
 ghost use Rattle.answers.specs.Numbers.{row, mark_number, flaw_number, reason_number, fault_row, numbers_of};
 
 // Pages are counted as the call that is refused counts them.
-#[derive(Clone, Copy)]
+#[derive(Clone, Copy, Debug, PartialEq, Eq)]
 pub enum Refusal {
     OfDatabase(Flaw),
     OnPage {
@@ -24,7 +25,7 @@ pub enum Refusal {
 }
 
 // Why nothing of a database is read.
-#[derive(Clone, Copy)]
+#[derive(Clone, Copy, Debug, PartialEq, Eq)]
 pub enum Flaw {
     OverLimit,
     OpeningDiffers,
@@ -37,7 +38,7 @@ pub enum Flaw {
 }
 
 // Why a call is refused on a page, before it comes to a cell, or because what it asks for is not there.
-#[derive(Clone, Copy)]
+#[derive(Clone, Copy, Debug, PartialEq, Eq)]
 pub enum Reason {
     PageAbsent,
     RootTooSmall,
@@ -54,15 +55,8 @@ pub enum Reason {
     VisitsUsedUp,
 }
 
-// What a run of checks comes to.
-#[derive(Clone, Copy)]
-pub enum Checked {
-    Passed,
-    Failed(Flaw),
-}
-
 // What is wrong with a cell.
-#[derive(Clone, Copy)]
+#[derive(Clone, Copy, Debug, PartialEq, Eq)]
 pub enum Fault {
     PointerOutside,
     CellCut,
@@ -82,7 +76,7 @@ pub enum Fault {
 }
 
 // Why the old reading need not show what the file reading shows of a record.
-#[derive(Clone, Copy)]
+#[derive(Clone, Copy, Debug, PartialEq, Eq)]
 pub enum Mark {
     // A varint over five bytes.
     LongVarint,
@@ -97,7 +91,7 @@ pub enum Mark {
 }
 
 // A refusal as it is printed and exported. What does not apply is 0.
-#[derive(Clone, Copy)]
+#[derive(Clone, Copy, Debug, PartialEq, Eq)]
 pub struct Numbers {
     pub number: u8,
     pub page: u32,
@@ -106,13 +100,22 @@ pub struct Numbers {
     pub mark: u8,
 }
 
+// A flaw refuses every call.
+impl From<Flaw> for Refusal {
+    ghost from_gives = { λ flaw refusal. refusal ≡ OfDatabase flaw };
+
+    fn from(flaw: Flaw) -> Refusal {
+        Refusal::OfDatabase(flaw)
+    }
+}
+
 pub fn numbers_of(refusal: Refusal) -> Numbers
     ensures { result ≡ numbers_of refusal }
 {
     match refusal {
-        Refusal::OfDatabase(flaw) => row_of(flaw_number(flaw), 0, 0, 0, 0),
-        Refusal::OnPage { page, reason } => row_of(reason_number(reason), page, 0, 0, 0),
-        Refusal::InCell { page, cell, fault } => fault_row(page, cell, fault),
+        Refusal::OfDatabase(flaw) => row_of(flaw.number(), 0, 0, 0, 0),
+        Refusal::OnPage { page, reason } => row_of(reason.number(), page, 0, 0, 0),
+        Refusal::InCell { page, cell, fault } => fault.row(page, cell),
     }
 }
 
@@ -129,64 +132,72 @@ fn row_of(number: u8, page: u32, cell: usize, column: usize, mark: u8) -> Number
     }
 }
 
-fn flaw_number(flaw: Flaw) -> u8
-    ensures { result ≡ flaw_number flaw }
-{
-    match flaw {
-        Flaw::OverLimit => 22,
-        Flaw::OpeningDiffers => 1,
-        Flaw::HeaderCut => 2,
-        Flaw::EncodingUnknown => 3,
-        Flaw::PageSizeUnfit => 4,
-        Flaw::UsableTooSmall => 5,
-        Flaw::ReadVersionAbove => 6,
-        Flaw::FractionsDiffer => 7,
+impl Flaw {
+    fn number(self) -> u8
+        ensures { result ≡ flaw_number self }
+    {
+        match self {
+            Flaw::OverLimit => 22,
+            Flaw::OpeningDiffers => 1,
+            Flaw::HeaderCut => 2,
+            Flaw::EncodingUnknown => 3,
+            Flaw::PageSizeUnfit => 4,
+            Flaw::UsableTooSmall => 5,
+            Flaw::ReadVersionAbove => 6,
+            Flaw::FractionsDiffer => 7,
+        }
     }
 }
 
-fn reason_number(reason: Reason) -> u8
-    ensures { result ≡ reason_number reason }
-{
-    match reason {
-        Reason::PageAbsent => 8,
-        Reason::RootTooSmall => 9,
-        Reason::KindUnfit => 10,
-        Reason::PointersPassEnd => 11,
-        Reason::TableTooShort => 19,
-        Reason::NoSuchCell => 20,
-        Reason::NoSuchColumn => 20,
-        Reason::IndexPage => 25,
-        Reason::TooDeep => 26,
-        Reason::VisitsUsedUp => 28,
+impl Reason {
+    fn number(self) -> u8
+        ensures { result ≡ reason_number self }
+    {
+        match self {
+            Reason::PageAbsent => 8,
+            Reason::RootTooSmall => 9,
+            Reason::KindUnfit => 10,
+            Reason::PointersPassEnd => 11,
+            Reason::TableTooShort => 19,
+            Reason::NoSuchCell | Reason::NoSuchColumn => 20,
+            Reason::IndexPage => 25,
+            Reason::TooDeep => 26,
+            Reason::VisitsUsedUp => 28,
+        }
     }
 }
 
-fn fault_row(page: u32, cell: usize, fault: Fault) -> Numbers
-    ensures { result ≡ fault_row page cell fault }
-{
-    match fault {
-        Fault::PointerOutside => row_of(12, page, cell, 0, 0),
-        Fault::CellCut => row_of(13, page, cell, 0, 0),
-        Fault::PayloadSpills => row_of(18, page, cell, 0, 0),
-        Fault::BufferTooShort => row_of(24, page, cell, 0, 0),
-        Fault::ChainUnfit => row_of(23, page, cell, 0, 0),
-        Fault::HeaderUnfit => row_of(14, page, cell, 0, 0),
-        Fault::TypeReserved { column } => row_of(15, page, cell, column, 0),
-        Fault::ValueUnfit { column } => row_of(16, page, cell, column, 0),
-        Fault::ClosingCut => row_of(17, page, cell, 0, 0),
-        Fault::Marked(mark) => row_of(21, page, cell, 0, mark_number(mark)),
-        Fault::OutOfOrder => row_of(27, page, cell, 0, 0),
+impl Fault {
+    // The numbers where it is met.
+    fn row(self, page: u32, cell: usize) -> Numbers
+        ensures { result ≡ fault_row page cell self }
+    {
+        match self {
+            Fault::PointerOutside => row_of(12, page, cell, 0, 0),
+            Fault::CellCut => row_of(13, page, cell, 0, 0),
+            Fault::PayloadSpills => row_of(18, page, cell, 0, 0),
+            Fault::BufferTooShort => row_of(24, page, cell, 0, 0),
+            Fault::ChainUnfit => row_of(23, page, cell, 0, 0),
+            Fault::HeaderUnfit => row_of(14, page, cell, 0, 0),
+            Fault::TypeReserved { column } => row_of(15, page, cell, column, 0),
+            Fault::ValueUnfit { column } => row_of(16, page, cell, column, 0),
+            Fault::ClosingCut => row_of(17, page, cell, 0, 0),
+            Fault::Marked(mark) => row_of(21, page, cell, 0, mark.number()),
+            Fault::OutOfOrder => row_of(27, page, cell, 0, 0),
+        }
     }
 }
 
-fn mark_number(mark: Mark) -> u8
-    ensures { result ≡ mark_number mark }
-{
-    match mark {
-        Mark::LongVarint => 1,
-        Mark::WideHeaderSize => 2,
-        Mark::StoredOne => 3,
-        Mark::EmptyValue => 4,
-        Mark::Spilled => 5,
+impl Mark {
+    fn number(self) -> u8
+        ensures { result ≡ mark_number self }
+    {
+        match self {
+            Mark::LongVarint => 1,
+            Mark::WideHeaderSize => 2,
+            Mark::StoredOne => 3,
+            Mark::EmptyValue => 4,
+            Mark::Spilled => 5,
+        }
     }
 }

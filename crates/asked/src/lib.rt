@@ -1,4 +1,7 @@
 // What a caller asks for and hands over by numbers: a reading, a page, a half of a table, a kind of page.
+//
+// They are functions and no `From<u8>`: the types are those of other crates, so an implementation would have to stand there, beside
+// what knows nothing of C's numbers.
 #![tactic(auto)]
 
 ghost use Rattle.std.specs.Prelude.{◌≡◌, eqb};
@@ -31,10 +34,10 @@ pub fn is_guarded(number: u8) -> bool
 pub fn reading_of(number: u8) -> Reading
     ensures { result ≡ reading_by number }
 {
-    if number == 0 {
-        return Reading::Old;
+    match number {
+        0 => Reading::Old,
+        _ => Reading::File,
     }
-    Reading::File
 }
 
 // The number that an opened page tells of its reading.
@@ -60,10 +63,10 @@ pub fn page_of(reading: u8, number: u32) -> Page
 pub fn share_of(half: u8) -> Share
     ensures { result ≡ share_by half }
 {
-    if half == 0 {
-        return Share::First;
+    match half {
+        0 => Share::First,
+        _ => Share::Second,
     }
-    Share::Second
 }
 
 // KINDS

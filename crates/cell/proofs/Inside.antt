@@ -11,8 +11,6 @@ use Rattle.varint.proofs.Laws.{length-bounds}
 use Rattle.reading.specs.declared.Reading.{Reading}
 use Rattle.reading.specs.declared.Reading.TheVariants.{Old as old, File as file}
 use Rattle.reading.specs.Reading.{limit}
-use Rattle.answers.specs.Answer.{shown}
-use Rattle.record.specs.declared.Fit.TheVariants.{Fits}
 use Rattle.record.specs.Types.{done, types_of, count, walk}
 use Rattle.record.specs.Record.{type_bytes, values_at, judged, record_of}
 use Rattle.record.proofs.Laws.{types-nil, walk-done}
@@ -23,6 +21,8 @@ use Rattle.cell.specs.Numbers.{none, numbers_of}
 use Rattle.cell.specs.Cell.{Cell, bare, cell_of}
 use Rattle.cell.proofs.Laws.{numbered, payload-within}
 use Rattle.cell.proofs.Recorded.{record_with, recorded, ended}
+use Rattle.record.specs.Record.{fits_with}
+use Rattle.std.specs.Prelude.{Ok}
 
 -- q is the payload of the cell c
 pub record Held (r : Reading) (q : List ℕ) (c : Cell) : Type 0 where
@@ -32,10 +32,10 @@ pub record Held (r : Reading) (q : List ℕ) (c : Cell) : Type 0 where
   pub types : types_of (limit r) (take (type_bytes r c.header) (drop c.header.length q)) ≡ c.types
   -- and the values fit
   pub left : ℕ
-  pub fits : judged r c.types (walk 0 (c.payload - values_at r c.header) c.types) ≡ Fits (count c.types) left
+  pub fits : judged r c.types (walk 0 (c.payload - values_at r c.header) c.types) ≡ fits_with (count c.types) left
 
 pub record Inside (r : Reading) (k : Kind) (s : List ℕ) (c : Cell) : Type 0 where
-  pub numbers : numbers_of r k s ≡ shown c.numbers
+  pub numbers : numbers_of r k s ≡ Ok c.numbers
   pub within : c.numbers.length + c.payload ≤ length s
   pub held : Held r (take c.payload (drop c.numbers.length s)) c
 
@@ -44,7 +44,7 @@ pub none-begin : (r : Reading) → values_at r none ≡ 0
 none-begin old = omega arith
 none-begin file = omega arith
 
-pub record-held : (r : Reading) (q : List ℕ) (c : Cell) {left : ℕ} → length q ≡ c.payload → record_of r q ≡ shown (record_with c left) → Held r q c
+pub record-held : (r : Reading) (q : List ℕ) (c : Cell) {left : ℕ} → length q ≡ c.payload → record_of r q ≡ Ok (record_with c left) → Held r q c
 record-held r q c {left} l e =
     let a = accepted r q e in
     let b = length-bounds q (limit r) a.header in
@@ -58,7 +58,7 @@ none-held : (r : Reading) (q : List ℕ) (c : Cell) → bare c.numbers ≡ c →
 none-held old q c e = rw (← e) (record { values = omega arith; types = types-nil 5; left = 0; fits = ap (judged old done) (walk-done 0 0) })
 none-held file q c e = rw (← e) (record { values = omega arith; types = types-nil 9; left = 0; fits = ap (judged file done) (walk-done 0 0) })
 
-pub inside : (r : Reading) (k : Kind) (u : ℕ) (s : List ℕ) {c : Cell} → cell_of r k u s ≡ shown c → Inside r k s c
+pub inside : (r : Reading) (k : Kind) (u : ℕ) (s : List ℕ) {c : Cell} → cell_of r k u s ≡ Ok c → Inside r k s c
 inside r k u s {c} e = go (has_size k) refl
   where
     go : (has : Bool) → has_size k ≡ has → Inside r k s c

@@ -7,15 +7,19 @@
 
 ghost use Rattle.std.specs.Prelude.{◌≡◌, ◌-◌, length, drop};
 ghost use Rattle.kinds.specs.Kind.{has_closing};
-ghost use Rattle.cell.specs.Numbers.{number_in, child_at, numbers_of, numbers_answer};
+ghost use Rattle.cell.specs.Numbers.{number_in, child_at, numbers_of};
 ghost use Rattle.cell.specs.Cell.{payload_in, behind, cell_of, answer_of};
 
 use answers::Fault;
 use kinds::Kind;
-use parts::less;
 use reading::{Reading, limit_of};
-use record::RecordAnswer;
-use varint::{Number, Varint};
+use varint::{Cause, Number};
+
+// What a kind lacks.
+const NONE: Number = Number {
+    value: 0,
+    length: 0,
+};
 
 // The numbers before a cell's payload. What its kind lacks is 0, in no bytes.
 #[derive(Clone, Copy)]
@@ -26,19 +30,6 @@ pub struct Numbers {
     pub key: Number,
     // How many bytes they took.
     pub length: usize,
-}
-
-#[derive(Clone, Copy)]
-pub enum NumbersAnswer {
-    Read(Numbers),
-    Cut,
-}
-
-// How many bytes are a cell's payload.
-#[derive(Clone, Copy)]
-pub enum Payload {
-    Whole(usize),
-    Faulty(Fault),
 }
 
 // A cell that is accepted. What its kind lacks is 0, in no bytes.
@@ -55,20 +46,15 @@ pub struct Cell {
     pub row: Number,
 }
 
-#[derive(Clone, Copy)]
-pub enum CellAnswer {
-    Shown(Cell),
-    Faulty(Fault),
-}
-
 // A varint, where there is one; `other` where there is none.
-fn number_in(s: &[u8], has: bool, limit: usize, other: Number) -> Varint
+fn number_in(s: &[u8], has: bool, limit: usize, other: Number) -> Result<Number, Cause>
     ensures { result ≡ number_in has limit other s.now }
 {
     if has {
-        return varint::read(s, limit);
+        varint::read(s, limit)
+    } else {
+        Ok(other)
     }
-    Varint::Value(other)
 }
 
 // The child of an interior cell.
@@ -76,34 +62,26 @@ fn child_of(s: &[u8], kind: Kind) -> u32
     ensures { result ≡ child_at kind s.now }
 {
     if kind.is_interior() {
-        return fields::be_u32(s);
+        fields::be_u32(s)
+    } else {
+        0
     }
-    0
 }
 
 // The numbers of the cell that begins `s`.
-pub fn numbers_of(s: &[u8], reading: Reading, kind: Kind) -> NumbersAnswer
-    ensures { result ≡ numbers_answer (numbers_of reading kind s.now) }
+pub fn numbers_of(s: &[u8], reading: Reading, kind: Kind) -> Result<Numbers, Fault>
+    ensures { result ≡ numbers_of reading kind s.now }
 {
     let own = kind.child_bytes();
     if s.len() < own {
-        return NumbersAnswer::Cut;
+        return Err(Fault::CellCut);
     }
-    let child = child_of(s, kind);
     let limit = limit_of(reading);
-    let none = Number {
-        value: 0,
-        length: 0,
-    };
-    let Varint::Value(size) = number_in(&s[own..], kind.has_size(), limit, none) else {
-        return NumbersAnswer::Cut;
-    };
+    let size = number_in(&s[own..], kind.has_size(), limit, NONE).or(Err(Fault::CellCut))?;
     let at = own + size.length;
-    let Varint::Value(key) = number_in(&s[at..], kind.has_row(), limit, none) else {
-        return NumbersAnswer::Cut;
-    };
-    NumbersAnswer::Read(Numbers {
-        child,
+    let key = number_in(&s[at..], kind.has_row(), limit, NONE).or(Err(Fault::CellCut))?;
+    Ok(Numbers {
+        child: child_of(s, kind),
         size,
         key,
         length: at + key.length,
@@ -112,92 +90,76 @@ pub fn numbers_of(s: &[u8], reading: Reading, kind: Kind) -> NumbersAnswer
 
 // How many of the bytes behind the numbers are the payload, whose size is given as `p`. The one place that looks for a
 // payload's bytes.
-pub fn payload_of(s: &[u8], reading: Reading, most: u64, p: u64) -> Payload
+pub fn payload_of(s: &[u8], reading: Reading, most: u64, p: u64) -> Result<usize, Fault>
     ensures { result ≡ payload_in reading most p s.now }
 {
     match reading {
-        Reading::Old => {
-            return Payload::Whole(s.len());
-        }
+        Reading::Old => Ok(s.len()),
         Reading::File => {
             if most < p {
-                return Payload::Faulty(Fault::PayloadSpills);
+                Err(Fault::PayloadSpills)
+            } else if (s.len() as u64) < p {
+                Err(Fault::CellCut)
+            } else {
+                Ok(p as usize)
             }
-            if (s.len() as u64) < p {
-                return Payload::Faulty(Fault::CellCut);
-            }
-            return Payload::Whole(p as usize);
         }
     }
 }
 
 // The varint behind a record that leaves `left` bytes of its payload `q`, where the kind has one; else the key.
-fn closing_in(q: &[u8], reading: Reading, kind: Kind, left: u64, key: Number) -> Varint
+fn closing_in(
+    q: &[u8],
+    reading: Reading,
+    kind: Kind,
+    left: u64,
+    key: Number,
+) -> Result<Number, Cause>
     ensures { result ≡ number_in (has_closing reading kind) 5 key (drop (length q.now - left) q.now) }
 {
-    let at = less(q.len() as u64, left) as usize;
+    let at = (q.len() as u64).saturating_sub(left) as usize;
     number_in(&q[at..], kind.has_closing(reading), varint::OLD_LIMIT, key)
 }
 
 // The cell behind its numbers: payload, record, and what stands behind that.
-fn behind_of(s: &[u8], reading: Reading, kind: Kind, usable: u32, numbers: Numbers) -> CellAnswer
+fn behind_of(
+    s: &[u8],
+    reading: Reading,
+    kind: Kind,
+    usable: u32,
+    numbers: Numbers,
+) -> Result<Cell, Fault>
     ensures { result ≡ answer_of reading (behind reading kind usable numbers s.now) }
 {
-    let size = numbers.size;
-    let payload = payload_of(s, reading, kind.most_whole(usable), size.value);
-    match payload {
-        Payload::Faulty(fault) => {
-            return CellAnswer::Faulty(fault);
-        }
-        Payload::Whole(n) => {
-            let q = &s[0..n];
-            let shown = record::record_of(q, reading);
-            match shown {
-                RecordAnswer::Faulty(fault) => {
-                    return CellAnswer::Faulty(fault);
-                }
-                RecordAnswer::Whole(record) => {
-                    let key = numbers.key;
-                    let Varint::Value(row) = closing_in(q, reading, kind, record.left, key) else {
-                        return CellAnswer::Faulty(Fault::ClosingCut);
-                    };
-                    let header = record.header;
-                    return CellAnswer::Shown(Cell {
-                        numbers,
-                        payload: n,
-                        header,
-                        values: record.values,
-                        columns: record.columns,
-                        row,
-                    });
-                }
-            }
-        }
-    }
+    let payload = payload_of(s, reading, kind.most_whole(usable), numbers.size.value)?;
+    let q = &s[..payload];
+    let record = record::record_of(q, reading)?;
+    let row = closing_in(q, reading, kind, record.left, numbers.key).or(Err(Fault::ClosingCut))?;
+    Ok(Cell {
+        numbers,
+        payload,
+        header: record.header,
+        values: record.values,
+        columns: record.columns,
+        row,
+    })
 }
 
 // The cell that begins `s`, the part of a page from the cell's pointer to where cells end (old: the page's end; file: U,
 // which is `usable`). An interior table cell ends behind its key.
-pub fn cell_of(s: &[u8], reading: Reading, kind: Kind, usable: u32) -> CellAnswer
+pub fn cell_of(s: &[u8], reading: Reading, kind: Kind, usable: u32) -> Result<Cell, Fault>
     ensures { result ≡ answer_of reading (cell_of reading kind usable s.now) }
 {
-    let NumbersAnswer::Read(numbers) = numbers_of(s, reading, kind) else {
-        return CellAnswer::Faulty(Fault::CellCut);
-    };
+    let numbers = numbers_of(s, reading, kind)?;
     if kind.has_size() {
-        let from = numbers.length;
-        return behind_of(&s[from..], reading, kind, usable, numbers);
+        return behind_of(&s[numbers.length..], reading, kind, usable, numbers);
     }
-    let key = numbers.key;
-    CellAnswer::Shown(Cell {
+    Ok(Cell {
         numbers,
         payload: 0,
-        header: Number {
-            value: 0,
-            length: 0,
-        },
+        header: NONE,
         values: 0,
         columns: 0,
-        row: key,
+        row: numbers.key,
     })
 }

@@ -13,7 +13,7 @@ use Rattle.answers.specs.declared.Fault.TheVariants as fa
 use Rattle.answers.specs.declared.Reason.TheVariants as re
 use Rattle.answers.specs.declared.Refusal.{Refusal}
 use Rattle.answers.specs.declared.Refusal.TheVariants.{OnPage, InCell}
-use Rattle.answers.specs.Answer.{Answer, refused, shown, ◌>>=◌}
+use Rattle.answers.specs.Answer.{◌>>=◌}
 use Rattle.kinds.specs.Kind.{has_size, most_whole}
 use Rattle.cell.specs.declared.Numbers.{Numbers}
 use Rattle.cell.specs.Numbers.{numbers_of}
@@ -24,20 +24,11 @@ use Rattle.place.specs.Place.{page_at}
 use Rattle.page.specs.declared.Open.{Open}
 use Rattle.page.specs.Open.{lies_in}
 use Rattle.page.proofs.Opened.{opened-lies}
-use Rattle.cells.specs.declared.NumberedAnswer.TheVariants as na
 use Rattle.cells.specs.Pointers.{pointer_at, outside, part_at, cell_at}
 use Rattle.cells.specs.Located.{Located, in_cell, located_in}
-use Rattle.cells.specs.Numbered.{numbers_at, numbers_in, numbered_answer}
+use Rattle.cells.specs.Numbered.{numbers_at, numbers_in}
 use Rattle.cells.proofs.Laws.{held}
-
--- the code's answer is the definition's
-pub numbers-answered : (x : Answer Refusal Numbers) {n : Numbers} → numbered_answer x ≡ na.Shown n → x ≡ shown n
-numbers-answered (refused refusal) e = never cc
-numbers-answered (shown n) e = cc
-
-pub numbers-unanswered : (x : Answer Refusal Numbers) {refusal : Refusal} → numbered_answer x ≡ na.Refused refusal → x ≡ refused refusal
-numbers-unanswered (refused other) e = cc
-numbers-unanswered (shown n) e = never cc
+use Rattle.std.specs.Prelude.{Err, Ok, Result}
 
 module _ (o : Open) (i : ℕ) (db : List ℕ) where
   abbrev page : List ℕ
@@ -46,19 +37,19 @@ module _ (o : Open) (i : ℕ) (db : List ℕ) where
   abbrev p : ℕ
   p = pointer_at o i page
 
-  abbrev numbers : Answer Fault Numbers
+  abbrev numbers : Result Numbers Fault
   numbers = numbers_of o.page.reading o.kind (part_at o p page)
 
-  abbrev cell_there : Answer Fault Cell
+  abbrev cell_there : Result Cell Fault
   cell_there = cell_of o.page.reading o.kind o.end (part_at o p page)
 
-  abbrev located : Cell → Answer Refusal Located
-  located c = shown (record { opened = o; pointer = p; cell = c })
+  abbrev located : Cell → Result Located Refusal
+  located c = Ok (record { opened = o; pointer = p; cell = c })
 
   -- both come to the part that begins at the pointer, or are refused alike before it
   data Reach : Type 0 where
     before : (refusal : Refusal) → ((number cell : ℕ) → refusal ≡ InCell number cell fa.PayloadSpills → ⊥)
-        → located_in o i db ≡ refused refusal → numbers_in o i db ≡ refused refusal → Reach
+        → located_in o i db ≡ Err refusal → numbers_in o i db ≡ Err refusal → Reach
     there : located_in o i db ≡ (in_cell o.page i cell_there >>= located) → numbers_in o i db ≡ in_cell o.page i numbers → Reach
 
   reach : Reach
@@ -78,7 +69,7 @@ module _ (o : Open) (i : ℕ) (db : List ℕ) where
       by_place true l = by_count l (ltb i o.cells) refl
 
   -- the numbers of a located cell
-  pub numbers-located : {l : Located} → located_in o i db ≡ shown l → numbers_in o i db ≡ shown l.cell.numbers
+  pub numbers-located : {l : Located} → located_in o i db ≡ Ok l → numbers_in o i db ≡ Ok l.cell.numbers
   unfolding numbers_in numbers_at
   numbers-located {l} e =
       let h = held o i db e in
@@ -87,43 +78,43 @@ module _ (o : Open) (i : ℕ) (db : List ℕ) where
       rw (opened-lies o db h.lies, lt-ltb i o.cells h.below, q, h.allowed, n)
 
   -- a cell whose numbers are refused
-  pub numbers-refused : {refusal : Refusal} → numbers_in o i db ≡ refused refusal → located_in o i db ≡ refused refusal
+  pub numbers-refused : {refusal : Refusal} → numbers_in o i db ≡ Err refusal → located_in o i db ≡ Err refusal
   numbers-refused {refusal} e = by-reach reach
     where
-      by-numbers : (x : Answer Fault Numbers) → numbers ≡ x → in_cell o.page i x ≡ refused refusal → (in_cell o.page i cell_there >>= located) ≡ refused refusal
-      by-numbers (refused fault) q d = rw (unnumbered o.page.reading o.kind o.end (part_at o p page) q) cc
-      by-numbers (shown n) q d = never cc
+      by-numbers : (x : Result Numbers Fault) → numbers ≡ x → in_cell o.page i x ≡ Err refusal → (in_cell o.page i cell_there >>= located) ≡ Err refusal
+      by-numbers (Err fault) q d = rw (unnumbered o.page.reading o.kind o.end (part_at o p page) q) cc
+      by-numbers (Ok n) q d = never cc
 
-      by-reach : Reach → located_in o i db ≡ refused refusal
-      by-reach (before other own l n) = let f : other ≡ refusal = cc in l ∙ ap refused f
+      by-reach : Reach → located_in o i db ≡ Err refusal
+      by-reach (before other own l n) = let f : other ≡ refusal = cc in l ∙ ap Err f
       by-reach (there l n) = l ∙ by-numbers numbers refl (sym n ∙ e)
 
   -- the numbers of a cell that is refused with 18
   pub record Spills : Type 0 where
     pub numbers : Numbers
-    pub read : numbers_in o i db ≡ shown numbers
+    pub read : numbers_in o i db ≡ Ok numbers
     pub sized : has_size o.kind ≡ true
     pub over : Over o.page.reading (most_whole o.kind o.end) numbers.size.value
 
-  pub spills-located : Spills → located_in o i db ≡ refused (InCell o.page.number i fa.PayloadSpills)
+  pub spills-located : Spills → located_in o i db ≡ Err (InCell o.page.number i fa.PayloadSpills)
   spills-located s = by-reach reach
     where
-      by-numbers : (x : Answer Fault Numbers) → numbers ≡ x → in_cell o.page i x ≡ shown s.numbers → numbers ≡ shown s.numbers
-      by-numbers (refused fault) q d = never cc
-      by-numbers (shown n) q d = cc
+      by-numbers : (x : Result Numbers Fault) → numbers ≡ x → in_cell o.page i x ≡ Ok s.numbers → numbers ≡ Ok s.numbers
+      by-numbers (Err fault) q d = never cc
+      by-numbers (Ok n) q d = cc
 
-      by-reach : Reach → located_in o i db ≡ refused (InCell o.page.number i fa.PayloadSpills)
+      by-reach : Reach → located_in o i db ≡ Err (InCell o.page.number i fa.PayloadSpills)
       by-reach (before other own l n) = never cc
       by-reach (there l n) =
           let q = by-numbers numbers refl (sym n ∙ s.read) in
           l ∙ rw (cell-spills o.page.reading o.kind o.end (part_at o p page) (record { numbers = s.numbers; read = q; sized = s.sized; over = s.over }))
 
-  pub located-spills : {number cell : ℕ} → located_in o i db ≡ refused (InCell number cell fa.PayloadSpills) → Spills
+  pub located-spills : {number cell : ℕ} → located_in o i db ≡ Err (InCell number cell fa.PayloadSpills) → Spills
   located-spills {number} {cell} e = by-reach reach
     where
-      by-cell : (x : Answer Fault Cell) → cell_there ≡ x → (in_cell o.page i x >>= located) ≡ refused (InCell number cell fa.PayloadSpills) → cell_there ≡ refused fa.PayloadSpills
-      by-cell (refused fault) q d = cc
-      by-cell (shown c) q d = never cc
+      by-cell : (x : Result Cell Fault) → cell_there ≡ x → (in_cell o.page i x >>= located) ≡ Err (InCell number cell fa.PayloadSpills) → cell_there ≡ Err fa.PayloadSpills
+      by-cell (Err fault) q d = cc
+      by-cell (Ok c) q d = never cc
 
       by-reach : Reach → Spills
       by-reach (before other own l n) = absurd (own number cell cc)

@@ -1,13 +1,12 @@
 -- A pointer of an opened page, the part of the page that begins there, and the cell in it. Row 12 of docs/READINGS.md, and
 -- those of the cell.
-use Rattle.std.specs.Prelude.{ℕ, ◌+◌, ◌-◌, ◌*◌, ◌≤◌, List, Bool, ◌||◌, ltb, leb, length, take, drop}
+use Rattle.std.specs.Prelude.{ℕ, ◌+◌, ◌-◌, ◌*◌, ◌≤◌, List, Bool, ◌||◌, ltb, leb, length, take, drop, Err, Result}
 use Rattle.laws.specs.Pick.{pick}
 use Rattle.fields.specs.Fields.{unsigned}
 use Rattle.reading.specs.declared.Reading.{Reading}
 use Rattle.reading.specs.declared.Reading.TheVariants.{Old as old, File as file}
 use Rattle.answers.specs.declared.Fault.{Fault}
 use Rattle.answers.specs.declared.Fault.TheVariants as fa
-use Rattle.answers.specs.Answer.{Answer, refused}
 use Rattle.cell.specs.Cell.{Cell, cell_of}
 use Rattle.page.specs.declared.Open.{Open}
 use Rattle.page.specs.Head.{pointers_at, pointers_end}
@@ -27,9 +26,9 @@ abbrev pub part_at : Open → ℕ → List ℕ → List ℕ
 part_at o p page = take (o.end - p) (drop p page)
 
 -- the cell that a pointer names
-unfoldable pub cell_at : Open → ℕ → List ℕ → Answer Fault Cell
+unfoldable pub cell_at : Open → ℕ → List ℕ → Result Cell Fault
 cell_at o p page =
-    pick (outside o.page.reading o p) (refused fa.PointerOutside)
+    pick (outside o.page.reading o p) (Err fa.PointerOutside)
     (cell_of o.page.reading o.kind o.end (part_at o p page))
 
 -- a page with its bytes: what the readers of its cells count on

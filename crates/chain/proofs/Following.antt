@@ -8,13 +8,14 @@ use lib.ListN.{length, take, drop, length-drop}
 use lib.Seq.{length-take-le, take-nil, take-take}
 use Rattle.fields.specs.Fields.{unsigned}
 use Rattle.shape.specs.declared.Shape.{Shape}
-use Rattle.place.specs.declared.Place.TheVariants.{At, Absent}
 use Rattle.links.specs.Links.{chain_of}
 use Rattle.links.specs.Whole.{Shaped, whole, content}
 use Rattle.chain.specs.Copied.{laid_at}
 use Rattle.chain.proofs.Copies.{laid-nothing, laid_on, laid-length}
 use Rattle.links.proofs.Steps.{lies, content_at, page-within, content-length, content-end, chain-absent}
 use Rattle.links.proofs.Steps.{whole-next, content-next}
+use Rattle.place.specs.Place.{placed_at}
+use Rattle.std.specs.Prelude.{None}
 
 module _ (shape : Shape) (db : List ℕ) (size : ℕ) where
   -- what is left of the chain, laid over the buffer from here on
@@ -28,7 +29,7 @@ module _ (shape : Shape) (db : List ℕ) (size : ℕ) where
 
   module _ {room : ℕ} {end : List ℕ} where
     pub goes_on : Shaped shape → size ≤ room → (left number here : ℕ) (b : List ℕ) → Going room end left number here b
-        → (k : ℕ) → left ≡ suc k → {at from : ℕ} → lies shape db number ≡ At at from
+        → (k : ℕ) → left ≡ suc k → {at from : ℕ} → lies shape db number ≡ placed_at at from
         → {n : ℕ} → n ≡ min (shape.end - 4) (size - here) → {next : ℕ} → next ≡ unsigned 4 (drop at db)
         → {b' : List ℕ} → b' ≡ laid_at here (take n (drop (at + 4) db)) b
         → Going room end k next (here + n) b'
@@ -58,7 +59,7 @@ module _ (shape : Shape) (db : List ℕ) (size : ℕ) where
         sym (laid-nothing here b) ∙ sym (ap (λ q. laid_at here q b) z) ∙ g.3
 
     pub absent : (left number here : ℕ) (b : List ℕ) → Going room end left number here b → (k : ℕ) → left ≡ suc k
-        → lies shape db number ≡ Absent → b ≡ end
+        → lies shape db number ≡ None → b ≡ end
     absent left number here b g k l e =
         let c = chain-absent shape db k number e in
         let z : take (size - here) (content (chain_of left shape number db)) ≡ [] = rw (l, c) (take-nil (size - here)) in

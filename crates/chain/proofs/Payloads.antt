@@ -10,7 +10,7 @@ use borrow.Author.Tests.{lt-ltb, le-ltb}
 use Rattle.fields.specs.Fields.{unsigned}
 use Rattle.answers.specs.declared.Fault.{Fault}
 use Rattle.answers.specs.declared.Fault.TheVariants as fa
-use Rattle.answers.specs.Answer.{Answer, refused, shown, ◌>>=◌}
+use Rattle.answers.specs.Answer.{◌>>=◌}
 use Rattle.kinds.specs.declared.Kind.{Kind}
 use Rattle.shape.specs.declared.Shape.{Shape}
 use Rattle.kept.specs.Kept.{kept_of, links_of}
@@ -21,12 +21,13 @@ use Rattle.chain.specs.Copied.{laid_at}
 use Rattle.chain.proofs.Copies.{laid_on}
 use Rattle.kept.proofs.Sizes.{links-hold}
 use Rattle.links.proofs.Steps.{whole-shown, chain-unfit, chain_length}
+use Rattle.std.specs.Prelude.{Err, Ok, Result}
 
 module _ (k : Kind) (shape : Shape) (p : ℕ) (s db : List ℕ) where
   abbrev pub kept : ℕ
   kept = kept_of k shape.end p
 
-  abbrev pub chain : Answer Fault (List ℕ)
+  abbrev pub chain : Result (List ℕ) Fault
   chain = chain_from kept shape p s db
 
   -- what stays on the page and the chain's, as far as p goes
@@ -34,27 +35,27 @@ module _ (k : Kind) (shape : Shape) (p : ℕ) (s db : List ℕ) where
   joined = take p (take kept s ++ content chain)
 
   module _ (room : ℕ) where
-    pub payload-short : room < p → payload_of k shape room p s db ≡ refused fa.BufferTooShort
+    pub payload-short : room < p → payload_of k shape room p s db ≡ Err fa.BufferTooShort
     unfolding payload_of
     payload-short h = rw (lt-ltb room p h)
 
     module _ (h : p ≤ room) where
-      pub payload_cut : length s < kept + 4 → payload_of k shape room p s db ≡ refused fa.CellCut
+      pub payload_cut : length s < kept + 4 → payload_of k shape room p s db ≡ Err fa.CellCut
       unfolding payload_of
       payload_cut l = rw (le-ltb room p h, lt-ltb (length s) (kept + 4) l)
 
       module _ (l : kept + 4 ≤ length s) where
-        pub payload-unfit : whole chain ≡ false → payload_of k shape room p s db ≡ refused fa.ChainUnfit
+        pub payload-unfit : whole chain ≡ false → payload_of k shape room p s db ≡ Err fa.ChainUnfit
         unfolding payload_of
         payload-unfit w =
             let u = chain-unfit shape db (links_of shape.end (p - kept)) (unsigned 4 (drop kept s)) w in
             rw (le-ltb room p h, le-ltb (length s) (kept + 4) l, u)
 
-        pub payload-joined : whole chain ≡ true → payload_of k shape room p s db ≡ shown joined
+        pub payload-joined : whole chain ≡ true → payload_of k shape room p s db ≡ Ok joined
         unfolding payload_of
         payload-joined w =
             rw (le-ltb room p h, le-ltb (length s) (kept + 4) l)
-            (ap (λ x. x >>= (λ rest. shown (take p (take kept s ++ rest)))) (whole-shown chain w))
+            (ap (λ x. x >>= (λ rest. Ok (take p (take kept s ++ rest)))) (whole-shown chain w))
 
   module _ (l : kept + 4 ≤ length s) where
     own-length : length (take kept s) ≡ kept

@@ -1,20 +1,16 @@
 -- A cell whose payload spills, with its payload gathered in a buffer that is lent: the buffer holds the payload and then its
 -- bytes as they were, or is left as it was where nothing is gathered.
-use Rattle.std.specs.Prelude.{ℕ, List, ◌++◌, length, drop}
+use Rattle.std.specs.Prelude.{ℕ, List, ◌++◌, length, drop, Err, Ok, Result}
 use Rattle.reading.specs.declared.Reading.TheVariants.{File as file}
 use Rattle.answers.specs.declared.Fault.{Fault}
 use Rattle.answers.specs.declared.Refusal.{Refusal}
-use Rattle.answers.specs.Answer.{Answer, refused, shown, ◌>>=◌}
+use Rattle.answers.specs.Answer.{◌>>=◌}
 use Rattle.cell.specs.declared.Numbers.{Numbers}
-use Rattle.cell.specs.declared.Payload.{Payload}
-use Rattle.cell.specs.declared.Payload.TheVariants as pa
 use Rattle.shape.specs.Shape.{shape_of}
 use Rattle.page.specs.declared.Open.{Open}
 use Rattle.site.specs.Site.{of_database}
 use Rattle.cells.specs.Located.{in_cell, part_in}
 use Rattle.cells.specs.Numbered.{numbers_in}
-use Rattle.chain.specs.declared.GatherAnswer.{GatherAnswer}
-use Rattle.chain.specs.declared.GatherAnswer.TheVariants as ga
 use Rattle.chain.specs.Payload.{payload_of}
 
 -- the numbers before the payload, and the payload
@@ -23,13 +19,13 @@ pub record Gathered : Type 0 where
   pub payload : List ℕ
 
 -- cell i of an opened page, by its numbers; its chain lies in pages of the file's shape
-unfoldable pub gathered_with : Open → ℕ → Numbers → ℕ → List ℕ → Answer Refusal Gathered
+unfoldable pub gathered_with : Open → ℕ → Numbers → ℕ → List ℕ → Result Gathered Refusal
 gathered_with o i n room db = do
   shape ← of_database (shape_of file db)
   q ← in_cell o.page i (payload_of o.kind shape room n.size.value (drop n.length (part_in o i db)) db)
-  shown (record { numbers = n; payload = q })
+  Ok (record { numbers = n; payload = q })
 
-unfoldable pub gathered_in : Open → ℕ → ℕ → List ℕ → Answer Refusal Gathered
+unfoldable pub gathered_in : Open → ℕ → ℕ → List ℕ → Result Gathered Refusal
 gathered_in o i room db = do
   n ← numbers_in o i db
   gathered_with o i n room db
@@ -40,20 +36,21 @@ gathered_in o i room db = do
 abbrev pub laid : List ℕ → List ℕ → List ℕ
 laid q buffer = q ++ drop (length q) buffer
 
-abbrev pub held_by : {R : Type 0} → Answer R (List ℕ) → List ℕ → List ℕ
-held_by (refused r) buffer = buffer
-held_by (shown q) buffer = laid q buffer
+abbrev pub held_by : {R : Type 0} → Result (List ℕ) R → List ℕ → List ℕ
+held_by (Err r) buffer = buffer
+held_by (Ok q) buffer = laid q buffer
 
-abbrev pub buffer_by : Answer Refusal Gathered → List ℕ → List ℕ
-buffer_by (refused refusal) buffer = buffer
-buffer_by (shown g) buffer = laid g.payload buffer
+abbrev pub buffer_by : Result Gathered Refusal → List ℕ → List ℕ
+buffer_by (Err refusal) buffer = buffer
+buffer_by (Ok g) buffer = laid g.payload buffer
 
 -- AS THE CODE HAS IT
 
-abbrev pub payload_answer : Answer Fault (List ℕ) → Payload
-payload_answer (refused fault) = pa.Faulty fault
-payload_answer (shown q) = pa.Whole (length q)
+abbrev pub payload_answer : Result (List ℕ) Fault → Result ℕ Fault
+payload_answer (Err fault) = Err fault
+payload_answer (Ok q) = Ok (length q)
 
-abbrev pub gather_answer : Answer Refusal Gathered → GatherAnswer
-gather_answer (refused refusal) = ga.Refused refusal
-gather_answer (shown g) = ga.Gathered g.numbers (length g.payload)
+-- how many bytes are gathered
+abbrev pub gather_answer : Result Gathered Refusal → Result ℕ Refusal
+gather_answer (Err refusal) = Err refusal
+gather_answer (Ok g) = Ok (length g.payload)

@@ -5,8 +5,6 @@
 #![tactic(auto)]
 
 ghost use Rattle.std.specs.Prelude.{◌≡◌, true, ◌+◌, ◌-◌, ◌≤◌, length, take};
-ghost use Rattle.answers.specs.declared.Refusal.TheVariants.{InCell};
-ghost use Rattle.chain.specs.declared.GatherAnswer.TheVariants.{Refused};
 ghost use Rattle.links.specs.Links.{chain_of};
 ghost use Rattle.links.specs.Whole.{Shaped, whole, content};
 ghost use Rattle.chain.specs.Payload.{payload_of};
@@ -14,28 +12,13 @@ ghost use Rattle.chain.specs.Gathered.{gathered_with, held_by, buffer_by, payloa
 ghost use Rattle.chain.specs.Copied.{laid_at};
 
 use answers::{Fault, Refusal};
-use cell::{Numbers, Payload};
+use cell::Numbers;
 use fields::be_u32;
 use kinds::Kind;
 use page::Open;
 use parts::{least, less};
-use place::Place;
 use reading::Reading;
-use shape::{Shape, ShapeAnswer};
-use varint::Number;
-
-#[derive(Clone, Copy)]
-pub enum GatherAnswer {
-    // The numbers of the cell, and how many bytes its payload has.
-    Gathered { numbers: Numbers, size: usize },
-    Refused(Refusal),
-}
-
-fn in_cell(page: u32, cell: usize, fault: Fault) -> GatherAnswer
-    ensures { result ≡ Refused (InCell page cell fault) }
-{
-    GatherAnswer::Refused(Refusal::InCell { page, cell, fault })
-}
+use shape::Shape;
 
 // Lays bytes over those of a buffer from `at` on, by way of an array: since that lies apart from both, the compiler makes one
 // move of the two copies, and none of the array.
@@ -70,78 +53,77 @@ fn follow(
     size: usize,
     buffer: &mut [u8],
 )
-    requires { Shaped shape × (at ≤ size) × (size ≤ length buffer.old)
-        × (whole (chain_of links shape first db.now) ≡ true) }
+    requires shaped { Shaped shape }
+    requires room { (at ≤ size) × (size ≤ length buffer.old) }
+    requires whole { whole (chain_of links shape first db.now) ≡ true }
     ensures { buffer.new
         ≡ laid_at at (take (size - at) (content (chain_of links shape first db.now))) buffer.old }
 {
     let width = shape.end as usize - 4;
     let mut number = first;
-    let mut left = links;
     let mut here = at;
-    while 0 < left {
-        let place = place::place_of(db.len(), shape, place::file(number));
-        let Place::At { at: start, from: _ } = place else {
+    for _link in 0..links {
+        let Some(place) = place::place_of(db.len(), shape, place::file(number)) else {
             return;
         };
+        let start = place.at;
         let n = least(width, size - here);
         let end = start + 4 + n;
         lay(&db[start + 4..end], here, buffer);
         number = be_u32(&db[start..]);
         here += n;
-        left -= 1;
     }
 }
 
 // The payload of `p` bytes of a cell of that kind, whose bytes behind its numbers are `s`.
-fn gather(db: &[u8], shape: Shape, kind: Kind, p: u64, s: &[u8], buffer: &mut [u8]) -> Payload
+#[tactic(auto, unfolding(crate::specs::Payload::payload_of))]
+fn gather(
+    db: &[u8],
+    shape: Shape,
+    kind: Kind,
+    p: u64,
+    s: &[u8],
+    buffer: &mut [u8],
+) -> Result<usize, Fault>
     requires { Shaped shape }
-    ensures { (result ≡ payload_answer (payload_of kind shape (length buffer.old) p s.now db.now))
-        × (buffer.new ≡ held_by (payload_of kind shape (length buffer.old) p s.now db.now) buffer.old) }
+    ensures answer { result ≡ payload_answer (payload_of kind shape (length buffer.old) p s.now db.now) }
+    ensures buffer { buffer.new ≡ held_by (payload_of kind shape (length buffer.old) p s.now db.now) buffer.old }
 {
     if (buffer.len() as u64) < p {
-        return Payload::Faulty(Fault::BufferTooShort);
+        return Err(Fault::BufferTooShort);
     }
     let kept = kept::kept_of(kind, shape.end, p);
     if (s.len() as u64) < kept + 4 {
-        return Payload::Faulty(Fault::CellCut);
+        return Err(Fault::CellCut);
     }
     let first = be_u32(&s[kept as usize..]);
     let links = kept::links_of(shape.end, less(p, kept));
     if !links::is_whole(db, shape, first, links) {
-        return Payload::Faulty(Fault::ChainUnfit);
+        return Err(Fault::ChainUnfit);
     }
     let size = p as usize;
     let own = least(kept as usize, size);
-    lay(&s[0..own], 0, buffer);
+    lay(&s[..own], 0, buffer);
     follow(db, shape, first, links, own, size, buffer);
-    Payload::Whole(size)
+    Ok(size)
 }
 
-// Gathers the payload of cell `i` of an opened page, which has these numbers, in a buffer that is lent, where it spills.
+// Gathers the payload of cell `i` of an opened page, which has these numbers, in a buffer that is lent, where it spills: how many
+// bytes it has.
+#[tactic(auto, unfolding(crate::specs::Gathered::gathered_with))]
 pub fn gather_in(
     db: &[u8],
     opened: Open,
     i: usize,
     numbers: Numbers,
     buffer: &mut [u8],
-) -> GatherAnswer
-    ensures { (result ≡ gather_answer (gathered_with opened i numbers (length buffer.old) db.now))
-        × (buffer.new ≡ buffer_by (gathered_with opened i numbers (length buffer.old) db.now) buffer.old) }
+) -> Result<usize, Refusal>
+    ensures answer { result ≡ gather_answer (gathered_with opened i numbers (length buffer.old) db.now) }
+    ensures buffer { buffer.new ≡ buffer_by (gathered_with opened i numbers (length buffer.old) db.now) buffer.old }
 {
-    let page = opened.page;
-    let kind = opened.kind;
-    let shaped = shape::shape_of(db, Reading::File);
-    match shaped {
-        ShapeAnswer::Refused(flaw) => GatherAnswer::Refused(Refusal::OfDatabase(flaw)),
-        ShapeAnswer::Shown(shape) => {
-            let size: Number = numbers.size;
-            let s = parts::behind(cells::part_in(db, opened, i), numbers.length);
-            let payload = gather(db, shape, kind, size.value, s, buffer);
-            match payload {
-                Payload::Faulty(fault) => in_cell(page.number, i, fault),
-                Payload::Whole(n) => GatherAnswer::Gathered { numbers, size: n },
-            }
-        }
-    }
+    let shape = shape::shape_of(db, Reading::File)?;
+    let s = parts::behind(cells::part_in(db, opened, i), numbers.length);
+    gather(db, shape, opened.kind, numbers.size.value, s, buffer).map_err(|fault| opened
+        .page
+        .refusal_in(i, fault))
 }

@@ -5,7 +5,6 @@ use mathlib.Core.List.{List}
 use native.Mathlib.Omega.{arith}
 use lib.ListN.{length, take, drop}
 use Rattle.reading.specs.declared.Reading.{Reading}
-use Rattle.answers.specs.Answer.{shown}
 use Rattle.record.specs.Types.{count}
 use Rattle.record.specs.Record.{values_at}
 use Rattle.cell.specs.Cell.{Cell}
@@ -18,6 +17,7 @@ use Rattle.cells.specs.Located as cells
 use Rattle.row.specs.Found.{payload_from, cursor_in}
 use Rattle.row.proofs.Placed.{placed-in}
 use Rattle.checked.specs.Whole.{Whole}
+use Rattle.std.specs.Prelude.{Ok}
 
 -- a cell whose payload stands at `base` of the bytes
 pub held_whole : (r : Reading) (base : ℕ) (c : Cell) (bytes : List ℕ) → Held r (take c.payload (drop base bytes)) c → base + c.payload ≤ length bytes
@@ -35,5 +35,5 @@ held_whole r base c bytes h l =
     }
 
 module _ (o : Open) (i : ℕ) (db : List ℕ) where
-  pub in_place : {l : Located} → cells.located_in o i db ≡ shown l → Whole (cursor_in l) (count l.cell.types) db
+  pub in_place : {l : Located} → cells.located_in o i db ≡ Ok l → Whole (cursor_in l) (count l.cell.types) db
   in_place {l} e = let p = placed-in o i db e in held_whole l.opened.page.reading (payload_from l) l.cell db p.held p.within

@@ -7,25 +7,24 @@ use native.Mathlib.Omega.{arith}
 use lib.ListN.{length, get_or, length-take, length-drop}
 use borrow.Author.Tests.{le-ltb}
 use Rattle.varint.specs.declared.Number.{Number}
-use Rattle.varint.specs.declared.Varint.{Varint}
-use Rattle.varint.specs.declared.Varint.TheVariants as vi
 use Rattle.varint.specs.Varint.{number, varint_of}
 use Rattle.varint.proofs.Laws.{length-bounds, longer-limit}
 use Rattle.reading.specs.declared.Reading.{Reading}
 use Rattle.reading.specs.declared.Reading.TheVariants.{Old as old, File as file}
 use Rattle.reading.specs.Reading.{limit}
-use Rattle.serial.specs.declared.Width.TheVariants as wi
 use Rattle.serial.specs.Serial.{width_of}
 use Rattle.record.specs.Types.{count, walk}
 use Rattle.record.proofs.Laws.{none-counted}
 use Rattle.record.proofs.Room.{Past, fits-past}
 use Rattle.record.proofs.Room as room
 use Rattle.columns.specs.declared.Cursor.{Cursor}
-use Rattle.columns.specs.declared.Stepped.TheVariants.{Column, Done}
 use Rattle.columns.specs.Columns.{types_at, end_in, slot_of, behind, step_of}
 use Rattle.columns.proofs.Laws.{ahead, types-behind, type-within, type-byte, step-passes, step-none, slot-within}
 use Rattle.columns.proofs.Extents.{There, past-found}
 use Rattle.checked.specs.Whole.{Whole, bytes_in, number_by}
+use Rattle.columns.specs.Columns.{step_over}
+use Rattle.std.specs.Prelude.{Err, None, Ok, Result, Some}
+use Rattle.varint.specs.declared.Cause.{Cause}
 
 -- of so many columns n are behind the cursor, and the rest are all there
 pub record Left (r : Reading) (columns : ℕ) (db : List ℕ) (c : Cursor) (n : ℕ) : Type 0 where
@@ -58,22 +57,22 @@ whole-found c n db w k l =
 pub record Next (r : Reading) (columns : ℕ) (db : List ℕ) (c : Cursor) (n : ℕ) : Type 0 where
   pub t : Number
   pub w : ℕ
-  pub read : varint_of (limit c.reading) (ahead c db) ≡ vi.Value t
-  pub width : width_of t.value ≡ wi.Bytes w
+  pub read : varint_of (limit c.reading) (ahead c db) ≡ Ok t
+  pub width : width_of t.value ≡ Some w
   pub room : c.value + w ≤ c.end
-  pub step : step_of c db ≡ Column t.value c.value (behind t.length w c)
+  pub step : step_of c db ≡ step_over t.value c.value (behind t.length w c)
   pub left : Left r columns db (behind t.length w c) (n + 1)
 
 module _ {r : Reading} {columns : ℕ} (db : List ℕ) (c : Cursor) (n : ℕ) (h : Left r columns db c n) where
-  pub none_left : columns ≤ n → step_of c db ≡ Done
+  pub none_left : columns ≤ n → step_of c db ≡ None
   none_left l = step-none c db (omega (arith, h.counted))
 
   pub next : n < columns → Next r columns db c n
   next l = go (varint_of (limit c.reading) (ahead c db)) refl
     where
-      go : (v : Varint) → varint_of (limit c.reading) (ahead c db) ≡ v → Next r columns db c n
-      go (vi.Unfinished cause) e = absurd (omega (arith, h.counted, none-counted (limit c.reading) (ahead c db) e))
-      go (vi.Value t) e =
+      go : (v : Result Number Cause) → varint_of (limit c.reading) (ahead c db) ≡ v → Next r columns db c n
+      go (Err cause) e = absurd (omega (arith, h.counted, none-counted (limit c.reading) (ahead c db) e))
+      go (Ok t) e =
           let rest = types_at (behind t.length 0 c) db in
           let i = types-behind c db e 0 in
           let p = room.passed Past (λ k d. d) (λ k d. d) n (c.end - c.value) t rest (rw i at h.past) in
@@ -101,7 +100,7 @@ module _ {r : Reading} {columns : ℕ} (db : List ℕ) (c : Cursor) (n : ℕ) (h
   pub byte-type : x.t ≡ number (get_or db c.at 0) 1
   byte-type = type-byte c db x.read b
 
-  pub byte_width : width_of (get_or db c.at 0) ≡ wi.Bytes x.w
+  pub byte_width : width_of (get_or db c.at 0) ≡ Some x.w
   byte_width = rw byte-type at x.width
 
 -- where it is longer: what the larger limit finds is what its reading's finds
@@ -109,7 +108,7 @@ within-nine : (r : Reading) → limit r ≤ 9
 within-nine old = omega arith
 within-nine file = omega arith
 
-pub type-nine : (db : List ℕ) (c : Cursor) {t : Number} → varint_of (limit c.reading) (ahead c db) ≡ vi.Value t → number_by (varint_of 9 (ahead c db)) ≡ t
+pub type-nine : (db : List ℕ) (c : Cursor) {t : Number} → varint_of (limit c.reading) (ahead c db) ≡ Ok t → number_by (varint_of 9 (ahead c db)) ≡ t
 type-nine db c e = ap number_by (longer-limit (ahead c db) (limit c.reading) 9 (within-nine c.reading) e)
 
 module _ {r : Reading} {columns : ℕ} (db : List ℕ) (c : Cursor) (n : ℕ) (h : Left r columns db c n) (x : Next r columns db c n) {t : Number}

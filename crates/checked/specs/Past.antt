@@ -1,13 +1,12 @@
 -- The cursor behind some columns: where there are fewer, before the first that is not there.
-use Rattle.std.specs.Prelude.{ℕ, zero, suc, List}
+use Rattle.std.specs.Prelude.{ℕ, zero, suc, List, None, Option, Some}
 use Rattle.columns.specs.declared.Cursor.{Cursor}
-use Rattle.columns.specs.declared.Stepped.{Stepped}
-use Rattle.columns.specs.declared.Stepped.TheVariants.{Column, Done}
 use Rattle.columns.specs.Columns.{step_of}
+use Rattle.columns.specs.declared.Step.{Step}
 
-abbrev pub past : Stepped → Cursor → (Cursor → Cursor) → Cursor
-past Done c rest = c
-past (Column t at next) c rest = rest next
+abbrev pub past : Option Step → Cursor → (Cursor → Cursor) → Cursor
+past None c rest = c
+past (Some step) c rest = rest step.next
 
 unfoldable pub past_of : ℕ → Cursor → List ℕ → Cursor
 past_of zero c db = c

@@ -9,30 +9,21 @@ ghost use Rattle.varint.specs.Varint.{varint_of};
 ghost use Rattle.serial.specs.Serial.{width_of};
 ghost use Rattle.checked.specs.Whole.{bytes_in, number_by};
 
-use serial::Width;
-use varint::{Number, Varint};
+use varint::Number;
 
 // The type that begins `s`. It was found within its reading's limit, so that the larger one finds it in both.
 pub fn type_in(s: &[u8]) -> Number
     ensures { result ≡ number_by (varint_of 9 s.now) }
 {
-    let found = varint::read(s, varint::FILE_LIMIT);
-    match found {
-        Varint::Value(number) => number,
-        Varint::Unfinished(_) => Number {
-            value: 0,
-            length: 0,
-        },
-    }
+    varint::read(s, varint::FILE_LIMIT).unwrap_or(Number {
+        value: 0,
+        length: 0,
+    })
 }
 
 // How many bytes its value has, of a type that has a width.
 pub fn width_in(serial: u64) -> u64
     ensures { result ≡ bytes_in (width_of serial) }
 {
-    let width = serial::width_of(serial);
-    match width {
-        Width::Bytes(bytes) => bytes,
-        Width::Reserved => 0,
-    }
+    serial::width_of(serial).unwrap_or(0)
 }

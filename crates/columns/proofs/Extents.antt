@@ -8,99 +8,97 @@ use lib.Dec.{ltb, eqb}
 use borrow.Author.Tests.{ltb-false, le-ltb, ne_eqb}
 use Rattle.laws.proofs.Never.{never}
 use Rattle.varint.specs.declared.Number.{Number}
-use Rattle.serial.specs.declared.Width.{Width}
-use Rattle.serial.specs.declared.Width.TheVariants as wi
 use Rattle.serial.specs.Serial.{width_of}
 use Rattle.record.specs.Types.{Types, done, broken, column, count, nth_type, walk}
 use Rattle.record.proofs.Laws.{nth-next}
+use Rattle.columns.proofs.Parts.{slot-parts}
 use Rattle.record.proofs.Room.{Past, passed}
-use Rattle.columns.specs.declared.Slot.{Slot}
-use Rattle.columns.specs.declared.Slot.TheVariants.{Found, Missing}
 use Rattle.columns.specs.Columns.{slot_in}
+use Rattle.columns.specs.Columns.{slot_at}
+use Rattle.columns.specs.declared.Slot.{Slot}
+use Rattle.std.specs.Prelude.{None, Option, Some}
 
 -- a value lies between two places
 pub record Within (from end t at : ℕ) : Type 0 where
   pub w : ℕ
-  pub width : width_of t ≡ wi.Bytes w
+  pub width : width_of t ≡ Some w
   pub after : from ≤ at
   pub before : at + w ≤ end
 
 -- the first column of some types is there: what it takes, and what follows
-pub record First (k value end : ℕ) (t : Number) (rest : Types) (slot : Slot) : Type 0 where
+pub record First (k value end : ℕ) (t : Number) (rest : Types) (slot : Option Slot) : Type 0 where
   pub w : ℕ
-  pub width : width_of t.value ≡ wi.Bytes w
+  pub width : width_of t.value ≡ Some w
   pub room : w ≤ end - value
-  pub on : elim (eqb k 0) [ true ↦ Found t.value value | false ↦ slot_in (k - 1) (value + w) end rest ] ≡ slot
+  pub on : elim (eqb k 0) [ true ↦ slot_at t.value value | false ↦ slot_in (k - 1) (value + w) end rest ] ≡ slot
 
-first : (k value end : ℕ) (t : Number) (rest : Types) {x at : ℕ} → slot_in k value end (column t rest) ≡ Found x at → First k value end t rest (Found x at)
+first : (k value end : ℕ) (t : Number) (rest : Types) {x at : ℕ} → slot_in k value end (column t rest) ≡ slot_at x at → First k value end t rest (slot_at x at)
 unfolding slot_in
 first k value end t rest {x} {at} e = by_width (width_of t.value) refl e
   where
-    by-room : (w : ℕ) → width_of t.value ≡ wi.Bytes w → (b : Bool) → ltb (end - value) w ≡ b
-        → elim b [ true ↦ Missing | false ↦ elim (eqb k 0) [ true ↦ Found t.value value | false ↦ slot_in (k - 1) (value + w) end rest ] ] ≡ Found x at
-        → First k value end t rest (Found x at)
+    by-room : (w : ℕ) → width_of t.value ≡ Some w → (b : Bool) → ltb (end - value) w ≡ b
+        → elim b [ true ↦ None | false ↦ elim (eqb k 0) [ true ↦ slot_at t.value value | false ↦ slot_in (k - 1) (value + w) end rest ] ] ≡ slot_at x at
+        → First k value end t rest (slot_at x at)
     by-room w f true g d = never cc
     by-room w f false g d = record { w = w; width = f; room = ltb-false (end - value) w g; on = d }
 
-    by_width : (y : Width) → width_of t.value ≡ y
-        → elim y [ wi.Bytes w ↦ elim (ltb (end - value) w) [ true ↦ Missing | false ↦ elim (eqb k 0) [ true ↦ Found t.value value | false ↦ slot_in (k - 1) (value + w) end rest ] ] | wi.Reserved ↦ Missing ]
-        ≡ Found x at
-        → First k value end t rest (Found x at)
-    by_width wi.Reserved f d = never cc
-    by_width (wi.Bytes w) f d = by-room w f (ltb (end - value) w) refl d
+    by_width : (y : Option ℕ) → width_of t.value ≡ y
+        → elim y [ Some w ↦ elim (ltb (end - value) w) [ true ↦ None | false ↦ elim (eqb k 0) [ true ↦ slot_at t.value value | false ↦ slot_in (k - 1) (value + w) end rest ] ] | None ↦ None ]
+        ≡ slot_at x at
+        → First k value end t rest (slot_at x at)
+    by_width None f d = never cc
+    by_width (Some w) f d = by-room w f (ltb (end - value) w) refl d
 
 -- what the first column is followed by, in the same words
-next : (k value end : ℕ) (t : Number) (w : ℕ) (rest : Types) → width_of t.value ≡ wi.Bytes w → w ≤ end - value
+next : (k value end : ℕ) (t : Number) (w : ℕ) (rest : Types) → width_of t.value ≡ Some w → w ≤ end - value
     → slot_in (suc k) value end (column t rest) ≡ slot_in k (value + w) end rest
 unfolding slot_in
 next k value end t w rest f g =
     let i : suc k - 1 ≡ k = omega arith in
     simp (slot_in, f, le-ltb (end - value) w g, ne_eqb (suc k) 0 (omega arith), i)
 
-here : (value end : ℕ) (t : Number) (w : ℕ) (rest : Types) → width_of t.value ≡ wi.Bytes w → w ≤ end - value → slot_in 0 value end (column t rest) ≡ Found t.value value
+here : (value end : ℕ) (t : Number) (w : ℕ) (rest : Types) → width_of t.value ≡ Some w → w ≤ end - value → slot_in 0 value end (column t rest) ≡ slot_at t.value value
 unfolding slot_in
 here value end t w rest f g = simp (slot_in, f, le-ltb (end - value) w g)
 
 -- NO GAP, AND NOT PAST THE END
 
-pub found_first : (value end : ℕ) (ts : Types) {t at : ℕ} → slot_in 0 value end ts ≡ Found t at → at ≡ value
+pub found_first : (value end : ℕ) (ts : Types) {t at : ℕ} → slot_in 0 value end ts ≡ slot_at t at → at ≡ value
 unfolding slot_in
 found_first value end done e = never cc
 found_first value end broken e = never cc
 found_first value end (column x rest) {t} {at} e =
     let f = first 0 value end x rest e in
-    let g : Found x.value value ≡ Found t at = sym (here value end x f.w rest f.width f.room) ∙ e in
-    cc
+    sym (slot-parts (sym (here value end x f.w rest f.width f.room) ∙ e)).1
 
-pub found_within : (k value end : ℕ) (ts : Types) {t at : ℕ} → value ≤ end → slot_in k value end ts ≡ Found t at → Within value end t at
+pub found_within : (k value end : ℕ) (ts : Types) {t at : ℕ} → value ≤ end → slot_in k value end ts ≡ slot_at t at → Within value end t at
 unfolding slot_in
 found_within k value end done l e = never cc
 found_within k value end broken l e = never cc
 found_within zero value end (column x rest) {t} {at} l e =
     let f = first 0 value end x rest e in
-    let g : Found x.value value ≡ Found t at = sym (here value end x f.w rest f.width f.room) ∙ e in
-    let i : x.value ≡ t = cc in
-    let j : value ≡ at = cc in
+    let g = slot-parts (sym (here value end x f.w rest f.width f.room) ∙ e) in
+    let j = g.1 in
     let r = f.room in
-    record { w = f.w; width = subst (λ (y : ℕ). width_of y ≡ wi.Bytes f.w) i f.width; after = omega arith; before = omega arith }
+    record { w = f.w; width = subst (λ (y : ℕ). width_of y ≡ Some f.w) g.0 f.width; after = omega arith; before = omega arith }
 found_within (suc k) value end (column x rest) {t} {at} l e =
     let f = first (suc k) value end x rest e in
     let r = f.room in
     let i = found_within k (value + f.w) end rest (omega arith) (sym (next k value end x f.w rest f.width r) ∙ e) in
     record { w = i.w; width = i.width; after = let a = i.after in omega arith; before = i.before }
 
-pub found-next : (k value end : ℕ) (ts : Types) {t at w x on : ℕ} → slot_in k value end ts ≡ Found t at → width_of t ≡ wi.Bytes w
-    → slot_in (suc k) value end ts ≡ Found x on → on ≡ at + w
+pub found-next : (k value end : ℕ) (ts : Types) {t at w x on : ℕ} → slot_in k value end ts ≡ slot_at t at → width_of t ≡ Some w
+    → slot_in (suc k) value end ts ≡ slot_at x on → on ≡ at + w
 unfolding slot_in
 found-next k value end done e f g = never cc
 found-next k value end broken e f g = never cc
 found-next zero value end (column y rest) {t} {at} {w} e f g =
     let i = first 0 value end y rest e in
-    let j : Found y.value value ≡ Found t at = sym (here value end y i.w rest i.width i.room) ∙ e in
-    let a : y.value ≡ t = cc in
-    let b : value ≡ at = cc in
+    let j = slot-parts (sym (here value end y i.w rest i.width i.room) ∙ e) in
+    let a = j.0 in
+    let b = j.1 in
     let q = i.width in
-    let c : wi.Bytes i.w ≡ wi.Bytes w = sym q ∙ rw a f in
+    let c : Some i.w ≡ Some w = sym q ∙ rw a f in
     let d : i.w ≡ w = cc in
     let h = found_first (value + i.w) end rest (sym (next 0 value end y i.w rest q i.room) ∙ g) in
     omega arith
@@ -112,7 +110,7 @@ found-next (suc k) value end (column y rest) e f g =
 
 -- AS MANY AS TYPES
 
-pub found_below : (k value end : ℕ) (ts : Types) {t at : ℕ} → slot_in k value end ts ≡ Found t at → k < count ts
+pub found_below : (k value end : ℕ) (ts : Types) {t at : ℕ} → slot_in k value end ts ≡ slot_at t at → k < count ts
 unfolding slot_in
 found_below k value end done e = never cc
 found_below k value end broken e = never cc
@@ -123,10 +121,10 @@ found_below (suc k) value end (column x rest) e =
     omega arith
 
 -- a column that is found
-pub record There (slot : Slot) : Type 0 where
+pub record There (slot : Option Slot) : Type 0 where
   pub t : ℕ
   pub at : ℕ
-  pub is : slot ≡ Found t at
+  pub is : slot ≡ slot_at t at
 
 pub past-found : (k col value end : ℕ) (ts : Types) → Past (walk col (end - value) ts) → k < count ts → There (slot_in k value end ts)
 past-found k col value end done p l = absurd (omega arith)
@@ -141,23 +139,22 @@ past-found (suc k) col value end (column x rest) p l =
     record { t = i.t; at = i.at; is = next k value end x f.width rest f.has f.room ∙ i.is }
 
 -- and none behind the last
-pub found_none : (k value end : ℕ) (ts : Types) → count ts ≤ k → slot_in k value end ts ≡ Missing
+pub found_none : (k value end : ℕ) (ts : Types) → count ts ≤ k → slot_in k value end ts ≡ None
 found_none k value end ts l = go (slot_in k value end ts) refl
   where
-    go : (s : Slot) → slot_in k value end ts ≡ s → s ≡ Missing
-    go Missing e = refl
-    go (Found t at) e = let b = found_below k value end ts e in absurd (omega arith)
+    go : (s : Option Slot) → slot_in k value end ts ≡ s → s ≡ None
+    go None e = refl
+    go (Some slot) e = let b = found_below k value end ts e in absurd (omega arith)
 
 -- WHICH, AND WHEREVER THE VALUES END
 
-pub found_type : (k value end : ℕ) (ts : Types) {t at : ℕ} → slot_in k value end ts ≡ Found t at → nth_type k ts ≡ t
+pub found_type : (k value end : ℕ) (ts : Types) {t at : ℕ} → slot_in k value end ts ≡ slot_at t at → nth_type k ts ≡ t
 unfolding slot_in
 found_type k value end done e = never cc
 found_type k value end broken e = never cc
 found_type zero value end (column x rest) {t} {at} e =
     let f = first 0 value end x rest e in
-    let g : Found x.value value ≡ Found t at = sym (here value end x f.w rest f.width f.room) ∙ e in
-    cc
+    (slot-parts (sym (here value end x f.w rest f.width f.room) ∙ e)).0
 found_type (suc k) value end (column x rest) e =
     let f = first (suc k) value end x rest e in
     nth-next k x rest ∙ found_type k (value + f.w) end rest (sym (next k value end x f.w rest f.width f.room) ∙ e)
@@ -174,7 +171,7 @@ past_same zero col value end end' (column x rest) p q =
 past_same (suc k) col value end end' (column x rest) p q =
     let f = passed Past (λ c d. d) (λ c d. d) col (end - value) x rest p in
     let g = passed Past (λ c d. d) (λ c d. d) col (end' - value) x rest q in
-    let both : wi.Bytes g.width ≡ wi.Bytes f.width = sym g.has ∙ f.has in
+    let both : Some g.width ≡ Some f.width = sym g.has ∙ f.has in
     let w : g.width ≡ f.width = cc in
     let d : end - value - f.width ≡ end - (value + f.width) = omega arith in
     let d' : end' - value - g.width ≡ end' - (value + f.width) = omega arith in

@@ -14,23 +14,21 @@ use Rattle.laws.proofs.Never.{never}
 use Rattle.laws.proofs.Parts.{drop-take}
 use Rattle.varint.specs.declared.Cause.{Cause}
 use Rattle.varint.specs.declared.Number.{Number}
-use Rattle.varint.specs.declared.Varint.{Varint}
-use Rattle.varint.specs.declared.Varint.TheVariants as vi
 use Rattle.varint.specs.Varint.{number, varint_of}
 use Rattle.varint.proofs.Laws.{one_byte, length-bounds}
 use Rattle.reading.specs.Reading.{limit}
 use Rattle.reading.proofs.Laws.{takes-five}
-use Rattle.serial.specs.declared.Width.{Width}
-use Rattle.serial.specs.declared.Width.TheVariants as wi
 use Rattle.serial.specs.Serial.{width_of}
 use Rattle.record.specs.Types.{Types, done, broken, column, types_of, count}
 use Rattle.record.proofs.Laws.{types-nil, types-next, types-broken}
 use Rattle.columns.specs.declared.Cursor.{Cursor}
-use Rattle.columns.specs.declared.Stepped.TheVariants.{Column, Done}
-use Rattle.columns.specs.declared.Slot.{Slot}
-use Rattle.columns.specs.declared.Slot.TheVariants.{Found, Missing}
 use Rattle.columns.specs.Columns.{types_at, end_in, slot_in, slot_of, behind, passed, step_in, step_of}
 use Rattle.columns.proofs.Extents.{found_none}
+use Rattle.columns.specs.Columns.{slot_at, step_over}
+use Rattle.columns.specs.declared.Slot.{Slot}
+use Rattle.std.specs.Prelude.{Err, None, Ok, Option, Result, Some}
+use Rattle.columns.specs.declared.Step.{Step}
+use Rattle.columns.proofs.Parts.{step-parts}
 
 module _ (c : Cursor) (db : List ℕ) where
   -- the bytes of the types before the cursor
@@ -39,15 +37,15 @@ module _ (c : Cursor) (db : List ℕ) where
 
   -- ONE STEP, by what is read there
 
-  pub step-ends : {cause : Cause} → varint_of (limit c.reading) ahead ≡ vi.Unfinished cause → step_of c db ≡ Done
+  pub step-ends : {cause : Cause} → varint_of (limit c.reading) ahead ≡ Err cause → step_of c db ≡ None
   unfolding step_of step_in
   step-ends {cause} e = go ahead e
     where
-      go : (s : List ℕ) → varint_of (limit c.reading) s ≡ vi.Unfinished cause → step_in (end_in c db) c (types_of (limit c.reading) s) ≡ Done
+      go : (s : List ℕ) → varint_of (limit c.reading) s ≡ Err cause → step_in (end_in c db) c (types_of (limit c.reading) s) ≡ None
       go [] d = rw (types-nil (limit c.reading))
       go (b ∷ s) d = rw (types-broken (limit c.reading) (b ∷ s) (omega arith) d)
 
-  module _ {t : Number} (e : varint_of (limit c.reading) ahead ≡ vi.Value t) where
+  module _ {t : Number} (e : varint_of (limit c.reading) ahead ≡ Ok t) where
     pub types-behind : (w : ℕ) → types_at c db ≡ column t (types_at (behind t.length w c) db)
     types-behind w =
         let d : c.stop - c.at - t.length ≡ c.stop - (c.at + t.length) = omega arith in
@@ -71,20 +69,20 @@ module _ (c : Cursor) (db : List ℕ) where
         let v = sym (rw first_byte at l) ∙ e in
         cc
 
-    pub step-reserved : width_of t.value ≡ wi.Reserved → step_of c db ≡ Done
+    pub step-reserved : width_of t.value ≡ None → step_of c db ≡ None
     unfolding step_of step_in
     step-reserved f = ap (step_in (end_in c db) c) (types-behind 0) ∙ simp (step_in, f)
 
-    pub step-passes : {w : ℕ} → width_of t.value ≡ wi.Bytes w → step_of c db ≡ passed (end_in c db) c t w
+    pub step-passes : {w : ℕ} → width_of t.value ≡ Some w → step_of c db ≡ passed (end_in c db) c t w
     unfolding step_of step_in
     step-passes f = ap (step_in (end_in c db) c) (types-behind 0) ∙ simp (step_in, f)
 
   -- no column where none is counted
-  pub step-none : count (types_at c db) ≡ 0 → step_of c db ≡ Done
+  pub step-none : count (types_at c db) ≡ 0 → step_of c db ≡ None
   unfolding step_of step_in
   step-none e = go (types_at c db) e
     where
-      go : (ts : Types) → count ts ≡ 0 → step_in (end_in c db) c ts ≡ Done
+      go : (ts : Types) → count ts ≡ 0 → step_in (end_in c db) c ts ≡ None
       go done d = refl
       go broken d = refl
       go (column t rest) d = absurd (omega arith)
@@ -95,13 +93,13 @@ module _ (c : Cursor) (db : List ℕ) where
   rest-is : {t : Number} {rest : Types} → types_at c db ≡ column t rest → (w : ℕ) → types_at (behind t.length w c) db ≡ rest
   rest-is {t} {rest} e w = go (varint_of (limit c.reading) ahead) refl
     where
-      ends : (s : List ℕ) {cause : Cause} → varint_of (limit c.reading) s ≡ vi.Unfinished cause → types_of (limit c.reading) s ≡ column t rest → ⊥
+      ends : (s : List ℕ) {cause : Cause} → varint_of (limit c.reading) s ≡ Err cause → types_of (limit c.reading) s ≡ column t rest → ⊥
       ends [] d f = let g = sym (types-nil (limit c.reading)) ∙ f in never cc
       ends (b ∷ s) d f = let g = sym (types-broken (limit c.reading) (b ∷ s) (omega arith) d) ∙ f in never cc
 
-      go : (v : Varint) → varint_of (limit c.reading) ahead ≡ v → types_at (behind t.length w c) db ≡ rest
-      go (vi.Unfinished cause) d = absurd (ends ahead d e)
-      go (vi.Value x) d =
+      go : (v : Result Number Cause) → varint_of (limit c.reading) ahead ≡ v → types_at (behind t.length w c) db ≡ rest
+      go (Err cause) d = absurd (ends ahead d e)
+      go (Ok x) d =
           let g = sym (types-behind d w) ∙ e in
           let i : x ≡ t = cc in
           rw i at (let j : types_at (behind x.length w c) db ≡ rest = cc in j)
@@ -112,28 +110,28 @@ module _ (c : Cursor) (db : List ℕ) where
     pub w : ℕ
     pub rest : Types
     pub types : ts ≡ column (number t n) rest
-    pub width : width_of t ≡ wi.Bytes w
+    pub width : width_of t ≡ Some w
     pub room : ltb (end_in c db - c.value) w ≡ false
     pub here : c.value ≡ at
     pub on : behind n w c ≡ next
 
-  passed_is : (ts : Types) {t at : ℕ} {next : Cursor} → step_in (end_in c db) c ts ≡ Column t at next → Passed ts t at next
+  passed_is : (ts : Types) {t at : ℕ} {next : Cursor} → step_in (end_in c db) c ts ≡ step_over t at next → Passed ts t at next
   unfolding step_in
   passed_is done e = never cc
   passed_is broken e = never cc
   passed_is (column x rest) {t} {at} {next} e = by_width (width_of x.value) refl e
     where
-      by-room : (w : ℕ) → width_of x.value ≡ wi.Bytes w → (b : Bool) → ltb (end_in c db - c.value) w ≡ b
-          → pick b Done (Column x.value c.value (behind x.length w c)) ≡ Column t at next → Passed (column x rest) t at next
+      by-room : (w : ℕ) → width_of x.value ≡ Some w → (b : Bool) → ltb (end_in c db - c.value) w ≡ b
+          → pick b None (step_over x.value c.value (behind x.length w c)) ≡ step_over t at next → Passed (column x rest) t at next
       by-room w f true g d = never cc
       by-room w f false g d =
-          let i : x.value ≡ t = cc in
-          record { n = x.length; w = w; rest = rest; types = rw (← i); width = rw i at f; room = g; here = cc; on = cc }
+          let i = step-parts d in
+          record { n = x.length; w = w; rest = rest; types = rw (← i.0); width = rw i.0 at f; room = g; here = i.1; on = i.2 }
 
-      by_width : (y : Width) → width_of x.value ≡ y → elim y [ wi.Bytes w ↦ passed (end_in c db) c x w | wi.Reserved ↦ Done ] ≡ Column t at next
+      by_width : (y : Option ℕ) → width_of x.value ≡ y → elim y [ Some w ↦ passed (end_in c db) c x w | None ↦ None ] ≡ step_over t at next
           → Passed (column x rest) t at next
-      by_width wi.Reserved f d = never cc
-      by_width (wi.Bytes w) f d = by-room w f (ltb (end_in c db - c.value) w) refl d
+      by_width None f d = never cc
+      by_width (Some w) f d = by-room w f (ltb (end_in c db - c.value) w) refl d
 
   -- where the values end in the bytes
   pub slot-within : c.end ≤ length db → (k : ℕ) → slot_of k c db ≡ slot_in k c.value c.end (types_at c db)
@@ -141,39 +139,39 @@ module _ (c : Cursor) (db : List ℕ) where
   slot-within l k = let e : end_in c db ≡ c.end = omega arith in rw e
 
   -- none is behind as many as there are types
-  pub slot-none : (k : ℕ) → count (types_at c db) ≤ k → slot_of k c db ≡ Missing
+  pub slot-none : (k : ℕ) → count (types_at c db) ≤ k → slot_of k c db ≡ None
   unfolding slot_of
   slot-none k l = found_none k c.value (end_in c db) (types_at c db) l
 
-  pub slot-done : (k : ℕ) → step_of c db ≡ Done → slot_of k c db ≡ Missing
+  pub slot-done : (k : ℕ) → step_of c db ≡ None → slot_of k c db ≡ None
   unfolding step_of step_in slot_of slot_in
   slot-done k e = go (types_at c db) e
     where
-      by-room : (w : ℕ) (t : Number) (x : Slot) (b : Bool) → pick b Done (Column t.value c.value (behind t.length w c)) ≡ Done → elim b [ true ↦ Missing | false ↦ x ] ≡ Missing
+      by-room : (w : ℕ) (t : Number) (x : Option Slot) (b : Bool) → pick b None (step_over t.value c.value (behind t.length w c)) ≡ None → ◌≡◌ {A = Option Slot} (elim b [ true ↦ None | false ↦ x ]) None
       by-room w t x true d = refl
       by-room w t x false d = never cc
 
-      by_width : (t : Number) (x : ℕ → Slot) (y : Width) → elim y [ wi.Bytes w ↦ passed (end_in c db) c t w | wi.Reserved ↦ Done ] ≡ Done
-          → elim y [ wi.Bytes w ↦ elim (ltb (end_in c db - c.value) w) [ true ↦ Missing | false ↦ x w ] | wi.Reserved ↦ Missing ] ≡ Missing
-      by_width t x wi.Reserved d = refl
-      by_width t x (wi.Bytes w) d = by-room w t (x w) (ltb (end_in c db - c.value) w) d
+      by_width : (t : Number) (x : ℕ → Option Slot) (y : Option ℕ) → ◌≡◌ {A = Option Step} (elim y [ Some w ↦ passed (end_in c db) c t w | None ↦ None ]) None
+          → ◌≡◌ {A = Option Slot} (elim y [ Some w ↦ elim (ltb (end_in c db - c.value) w) [ true ↦ None | false ↦ x w ] | None ↦ None ]) None
+      by_width t x None d = refl
+      by_width t x (Some w) d = by-room w t (x w) (ltb (end_in c db - c.value) w) d
 
-      go : (ts : Types) → step_in (end_in c db) c ts ≡ Done → slot_in k c.value (end_in c db) ts ≡ Missing
+      go : (ts : Types) → step_in (end_in c db) c ts ≡ None → slot_in k c.value (end_in c db) ts ≡ None
       go done d = refl
       go broken d = refl
       go (column t rest) d =
-          by_width t (λ w. elim (eqb k 0) [ true ↦ Found t.value c.value | false ↦ slot_in (k - 1) (c.value + w) (end_in c db) rest ]) (width_of t.value) d
+          by_width t (λ w. elim (eqb k 0) [ true ↦ slot_at t.value c.value | false ↦ slot_in (k - 1) (c.value + w) (end_in c db) rest ]) (width_of t.value) d
 
-  module _ {t at : ℕ} {next : Cursor} (e : step_of c db ≡ Column t at next) where
+  module _ {t at : ℕ} {next : Cursor} (e : step_of c db ≡ step_over t at next) where
     pub stepped : Passed (types_at c db) t at next
     unfolding step_of
     stepped = passed_is (types_at c db) e
 
-    pub slot-here : slot_of 0 c db ≡ Found t at
+    pub slot-here : slot_of 0 c db ≡ slot_at t at
     unfolding slot_of slot_in
     slot-here =
         let p = stepped in
-        ap (slot_in 0 c.value (end_in c db)) p.types ∙ (simp (slot_in, p.width, p.room)) ∙ ap (Found t) p.here
+        ap (slot_in 0 c.value (end_in c db)) p.types ∙ (simp (slot_in, p.width, p.room)) ∙ ap (slot_at t) p.here
 
     pub slot_next : (k : ℕ) → slot_of (suc k) c db ≡ slot_of k next db
     unfolding slot_of slot_in

@@ -1,9 +1,8 @@
 -- Payloads that spill, worked by hand: how one is cut on pages of 512 usable bytes, and chains of pages that are small enough
 -- to be written down.
-use Rattle.std.specs.Prelude.{ℕ, ◌-◌, ◌≡◌, List, [], ◌∷◌, ◌++◌, map}
+use Rattle.std.specs.Prelude.{ℕ, ◌-◌, ◌≡◌, List, [], ◌∷◌, ◌++◌, map, Err, Ok, Result}
 use Rattle.answers.specs.declared.Fault.{Fault}
 use Rattle.answers.specs.declared.Fault.TheVariants as fa
-use Rattle.answers.specs.Answer.{Answer, refused, shown}
 use Rattle.kinds.specs.declared.Kind.{Kind}
 use Rattle.kinds.specs.declared.Kind.TheVariants.{LeafTable, LeafIndex}
 use Rattle.shape.specs.declared.Shape.{Shape}
@@ -48,22 +47,22 @@ three_pages second third =
 
 -- so many pages from that number on, in the file where 2 and 3 hand on so
 pub data Chain : Type 0 where
-  chain : (pages first second third : ℕ) → Answer Fault (List ℕ) → Chain
+  chain : (pages first second third : ℕ) → Result (List ℕ) Fault → Chain
 
 unfoldable pub chain_again : Chain → Chain
 chain_again (chain n first second third a) = chain n first second third (chain_of n small first (three_pages second third))
 
 abbrev pub chains : List Chain
 chains =
-    chain 2 2 3 0 (shown (20 ∷ 21 ∷ 30 ∷ 31 ∷ []))
-    ∷ chain 2 3 0 2 (shown (30 ∷ 31 ∷ 20 ∷ 21 ∷ []))
-    ∷ chain 1 3 0 0 (shown (30 ∷ 31 ∷ []))
-    ∷ chain 0 0 3 0 (shown [])
+    chain 2 2 3 0 (Ok (20 ∷ 21 ∷ 30 ∷ 31 ∷ []))
+    ∷ chain 2 3 0 2 (Ok (30 ∷ 31 ∷ 20 ∷ 21 ∷ []))
+    ∷ chain 1 3 0 0 (Ok (30 ∷ 31 ∷ []))
+    ∷ chain 0 0 3 0 (Ok [])
     -- it goes on, it ends early, it runs in a circle, it leaves the file
-    ∷ chain 1 2 3 0 (refused fa.ChainUnfit)
-    ∷ chain 3 2 3 0 (refused fa.ChainUnfit)
-    ∷ chain 2 2 3 2 (refused fa.ChainUnfit)
-    ∷ chain 2 2 4 0 (refused fa.ChainUnfit)
+    ∷ chain 1 2 3 0 (Err fa.ChainUnfit)
+    ∷ chain 3 2 3 0 (Err fa.ChainUnfit)
+    ∷ chain 2 2 3 2 (Err fa.ChainUnfit)
+    ∷ chain 2 2 4 0 (Err fa.ChainUnfit)
     ∷ []
 
 abbrev pub ChainsWorked : Type 0

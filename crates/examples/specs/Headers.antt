@@ -1,12 +1,11 @@
 -- Headers worked by hand: where each field stands and how wide it is, and what is still accepted.
-use Rattle.std.specs.Prelude.{ℕ, ◌≡◌, List, [], ◌∷◌, ◌++◌, map, replicate}
+use Rattle.std.specs.Prelude.{ℕ, ◌≡◌, List, [], ◌∷◌, ◌++◌, map, replicate, Err, Ok, Result}
 use Rattle.answers.specs.declared.Flaw.TheVariants as fl
 use Rattle.reading.specs.declared.Reading.{Reading}
 use Rattle.reading.specs.declared.Reading.TheVariants.{Old as old, File as file}
 use Rattle.header.specs.declared.Header.{Header}
-use Rattle.header.specs.declared.HeaderAnswer.{HeaderAnswer}
-use Rattle.header.specs.declared.HeaderAnswer.TheVariants.{Shown, Refused}
 use Rattle.header.specs.Header.{opening, header_of}
+use Rattle.answers.specs.declared.Flaw.{Flaw}
 
 abbrev pub four : ℕ → List ℕ
 four n = 0 ∷ 0 ∷ 0 ∷ n ∷ []
@@ -47,7 +46,7 @@ fields size reserved encoding =
 
 -- a header of those bytes, in a reading
 pub data Head : Type 0 where
-  head : Reading → (high low reserved encoding : ℕ) → HeaderAnswer → Head
+  head : Reading → (high low reserved encoding : ℕ) → Result Header Flaw → Head
 
 unfoldable pub head_again : Head → Head
 head_again (head r high low reserved encoding a) = head r high low reserved encoding (header_of r (header_bytes high low reserved encoding))
@@ -55,22 +54,22 @@ head_again (head r high low reserved encoding a) = head r high low reserved enco
 abbrev pub heads : List Head
 heads =
     -- the old reading drops the reserved space
-    head old 2 0 7 3 (Shown (fields 512 0 3))
-    ∷ head file 2 0 7 3 (Shown (fields 512 7 3))
-    ∷ head file 16 0 0 1 (Shown (fields 4096 0 1))
+    head old 2 0 7 3 (Ok (fields 512 0 3))
+    ∷ head file 2 0 7 3 (Ok (fields 512 7 3))
+    ∷ head file 16 0 0 1 (Ok (fields 4096 0 1))
     -- a size of 1 means 65,536
-    ∷ head old 0 1 0 2 (Shown (fields 65536 0 2))
-    ∷ head file 0 1 0 2 (Shown (fields 65536 0 2))
+    ∷ head old 0 1 0 2 (Ok (fields 65536 0 2))
+    ∷ head file 0 1 0 2 (Ok (fields 65536 0 2))
     -- no power of two, and one that is too small
-    ∷ head old 2 1 0 1 (Shown (fields 513 0 1))
-    ∷ head file 2 1 0 1 (Refused fl.PageSizeUnfit)
-    ∷ head file 1 0 0 1 (Refused fl.PageSizeUnfit)
+    ∷ head old 2 1 0 1 (Ok (fields 513 0 1))
+    ∷ head file 2 1 0 1 (Err fl.PageSizeUnfit)
+    ∷ head file 1 0 0 1 (Err fl.PageSizeUnfit)
     -- 480 bytes are used at least
-    ∷ head file 2 0 32 1 (Shown (fields 512 32 1))
-    ∷ head file 2 0 33 1 (Refused fl.UsableTooSmall)
+    ∷ head file 2 0 32 1 (Ok (fields 512 32 1))
+    ∷ head file 2 0 33 1 (Err fl.UsableTooSmall)
     -- the encodings are 1, 2 and 3
-    ∷ head old 2 0 0 0 (Refused fl.EncodingUnknown)
-    ∷ head old 2 0 0 4 (Refused fl.EncodingUnknown)
+    ∷ head old 2 0 0 0 (Err fl.EncodingUnknown)
+    ∷ head old 2 0 0 4 (Err fl.EncodingUnknown)
     ∷ []
 
 abbrev pub HeadersWorked : Type 0

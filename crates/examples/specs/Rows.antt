@@ -1,7 +1,5 @@
 -- Rows worked by hand, as one table under one statement: varints, and payloads of table leaf cells, in the three readings.
-use Rattle.std.specs.Prelude.{ℕ, ◌+◌, ◌-◌, ◌/◌, ◌%◌, ◌≡◌, List, [], ◌∷◌, ◌++◌, map, length, replicate, ℤ, pos, negsuc}
-use Rattle.varint.specs.declared.Varint.{Varint}
-use Rattle.varint.specs.declared.Varint.TheVariants.{Value, Unfinished}
+use Rattle.std.specs.Prelude.{ℕ, ◌+◌, ◌-◌, ◌/◌, ◌%◌, ◌≡◌, List, [], ◌∷◌, ◌++◌, map, length, replicate, ℤ, pos, negsuc, Err, Ok, Result}
 use Rattle.varint.specs.declared.Cause.TheVariants.{WithoutEnd}
 use Rattle.varint.specs.Varint.{number, varint_of}
 use Rattle.answers.specs.declared.Refusal.TheVariants.{InCell}
@@ -11,6 +9,8 @@ use Rattle.answers.specs.declared.Mark.TheVariants as ma
 use Rattle.header.specs.Header.{opening}
 use Rattle.cells.specs.Located.{row_number}
 use Rattle.agreement.specs.Shows.{null, integer, text, blob, Row, none, row, old_shows, file_shows, guarded_shows}
+use Rattle.varint.specs.declared.Cause.{Cause}
+use Rattle.varint.specs.declared.Number.{Number}
 
 -- the bytes of a varint, or a payload and what stands behind it on its page
 pub data Given : Type 0 where
@@ -19,7 +19,7 @@ pub data Given : Type 0 where
 
 -- a varint in old and in file, and the row number that it is in file; or a row in old, file and guarded
 pub data Seen : Type 0 where
-  numbers : Varint → Varint → ℤ → Seen
+  numbers : Result Number Cause → Result Number Cause → ℤ → Seen
   rows : Row → Row → Row → Seen
 
 -- A DATABASE OF ONE PAGE, of 512 bytes, that ends in one cell: the payload as row 1, and what stands behind it
@@ -35,9 +35,9 @@ head_of start =
 unfoldable pub database_of : List ℕ → List ℕ → List ℕ
 database_of p z = head_of (start_of p z) ++ replicate (start_of p z - 110) 0 ++ (length p ∷ 1 ∷ p) ++ z
 
-abbrev pub row_number_of : Varint → ℤ
-row_number_of (Value n) = row_number n.value
-row_number_of (Unfinished cause) = pos 0
+abbrev pub row_number_of : Result Number Cause → ℤ
+row_number_of (Ok n) = row_number n.value
+row_number_of (Err cause) = pos 0
 
 unfoldable pub seen_of : Given → Seen
 seen_of (varint s) = numbers (varint_of 5 s) (varint_of 9 s) (row_number_of (varint_of 9 s))
@@ -56,8 +56,8 @@ given (g ⟹ s) = g
 abbrev pub seen : Line → Seen
 seen (g ⟹ s) = s
 
-abbrev pub value : ℕ → ℕ → Varint
-value v length = Value (number v length)
+abbrev pub value : ℕ → ℕ → Result Number Cause
+value v length = Ok (number v length)
 
 -- row 1 with one integer or more, and the refusals of cell 0: the page is 0 in old, 1 in file and guarded
 abbrev pub ints : List ℤ → Row
@@ -80,8 +80,8 @@ abbrev pub table : List Line
 table =
     (varint (0x81 ∷ 0x00 ∷ []) ⟹ numbers (value 128 2) (value 128 2) (pos 128))
     ∷ (varint (0xff ∷ 0xff ∷ 0xff ∷ 0xff ∷ 0x7f ∷ []) ⟹ numbers (value 34359738367 5) (value 34359738367 5) (pos 34359738367))
-    ∷ (varint (0x81 ∷ 0x80 ∷ 0x80 ∷ 0x80 ∷ 0x80 ∷ 0x00 ∷ []) ⟹ numbers (Unfinished WithoutEnd) (value 34359738368 6) (pos 34359738368))
-    ∷ (varint (replicate 9 0xff) ⟹ numbers (Unfinished WithoutEnd) (value 18446744073709551615 9) (negsuc 0))
+    ∷ (varint (0x81 ∷ 0x80 ∷ 0x80 ∷ 0x80 ∷ 0x80 ∷ 0x00 ∷ []) ⟹ numbers (Err WithoutEnd) (value 34359738368 6) (pos 34359738368))
+    ∷ (varint (replicate 9 0xff) ⟹ numbers (Err WithoutEnd) (value 18446744073709551615 9) (negsuc 0))
     ∷ (payload (3 ∷ 9 ∷ 4 ∷ 1 ∷ 0 ∷ 0 ∷ 0 ∷ []) [] ⟹ rows (ints (pos 0 ∷ pos 16777216 ∷ [])) (ints (pos 1 ∷ pos 16777216 ∷ [])) (in-file (fa.Marked ma.StoredOne)))
     ∷ (payload (3 ∷ 8 ∷ 4 ∷ 1 ∷ 0 ∷ 0 ∷ 0 ∷ []) [] ⟹ all (ints (pos 0 ∷ pos 16777216 ∷ [])))
     ∷ (payload (2 ∷ 13 ∷ []) [] ⟹ rows (row (pos 1) (null ∷ [])) (row (pos 1) (text [] ∷ [])) (in-file (fa.Marked ma.EmptyValue)))

@@ -9,8 +9,7 @@ use Rattle.halves.specs.declared.Share.TheVariants.{Whole, First, Second}
 use Rattle.halves.specs.Halves.{start_of, room_of, lent_of}
 use Rattle.halves.proofs.Laws.{halves-apart, halves-end, lent_length, within-whole, within-length, within-lent, within-before, within-behind}
 use Rattle.place.specs.declared.Page.{Page}
-use Rattle.page.specs.declared.OpenAnswer.{OpenAnswer}
-use Rattle.page.specs.Open.{open_of, open_answer}
+use Rattle.page.specs.Open.{open_of}
 use Rattle.table.specs.declared.Entry.{Entry}
 use Rattle.table.specs.Entry.{filled}
 use Rattle.table.specs.Page.{page_of, written}
@@ -18,10 +17,13 @@ use Rattle.table.proofs.Laws.{cells-within}
 use Rattle.lent.specs.Call.{answer_of, left_of}
 use Rattle.lent.proofs.Filled.{filled-length}
 use Rattle.exchange.specs.Behind.{behind_both}
+use Rattle.answers.specs.declared.Refusal.{Refusal}
+use Rattle.page.specs.declared.Open.{Open}
+use Rattle.std.specs.Prelude.{Result}
 
 module _ (page : Page) (db : List ℕ) (ys : List Entry) where
-  abbrev opening : OpenAnswer
-  opening = open_answer (open_of page db)
+  abbrev opening : Result Open Refusal
+  opening = open_of page db
 
   -- what a call that is lent a share makes of it
   abbrev fills : Share → List Entry → List Entry

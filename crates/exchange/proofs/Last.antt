@@ -7,11 +7,9 @@ use Rattle.halves.specs.Halves.{lent_of}
 use Rattle.halves.proofs.Laws.{lent_length, within-whole}
 use Rattle.halves.specs.declared.Share.TheVariants.{Whole, First, Second}
 use Rattle.place.specs.declared.Page.{Page}
-use Rattle.page.specs.Open.{open_of, open_answer}
+use Rattle.page.specs.Open.{open_of}
 use Rattle.table.specs.declared.Entry.{Entry}
 use Rattle.table.specs.declared.Head.{Head}
-use Rattle.table.specs.declared.PageAnswer.{PageAnswer}
-use Rattle.table.specs.declared.PageAnswer.TheVariants.{Shown}
 use Rattle.table.specs.Entry.{filled}
 use Rattle.table.specs.Page.{page_of, written}
 use Rattle.lent.specs.Call.{answer_of}
@@ -21,6 +19,8 @@ use Rattle.exchange.specs.Last.{AllRefused, LastAccepted, NoneAccepted}
 use Rattle.exchange.proofs.Halves.{left-length, left-own}
 use Rattle.exchange.proofs.Answers.{length-kept}
 use Rattle.exchange.proofs.Alone.{own_alone}
+use Rattle.answers.specs.declared.Refusal.{Refusal}
+use Rattle.std.specs.Prelude.{Ok, Result}
 
 -- calls behind each other
 after_both : (before later : List Call) (ys : List Entry) → after (before ++ later) ys ≡ after later (after before ys)
@@ -58,14 +58,14 @@ still-refused (c ∷ calls) ys zs l none =
     ((none.0.0, same_answer c ys zs l ∙ none.0.1), still-refused calls ys zs l none.1)
 
 -- a call that is accepted, on its half
-accepted-half : (t : Truck) (page : Page) (db : List ℕ) (head : Head) (ys : List Entry) → answer (asks t page db) ys ≡ Shown head
-    → lent_of (half_of t) (left (asks t page db) ys) ≡ filled (open_answer (open_of page db)) db head.cells (lent_of (half_of t) ys)
+accepted-half : (t : Truck) (page : Page) (db : List ℕ) (head : Head) (ys : List Entry) → answer (asks t page db) ys ≡ Ok head
+    → lent_of (half_of t) (left (asks t page db) ys) ≡ filled (open_of page db) db head.cells (lent_of (half_of t) ys)
 accepted-half t page db head ys e =
-    let o = open_answer (open_of page db) in
+    let o = open_of page db in
     let half = lent_of (half_of t) ys in
     left-own page db ys (half_of t)
     ∙ within-whole (filled o db (written (page_of page (length half) db))) half
-    ∙ ap (λ (r : PageAnswer). filled o db (written r) half) (on-half t page db ys ∙ e)
+    ∙ ap (λ (r : Result Head Refusal). filled o db (written r) half) (on-half t page db ys ∙ e)
 
 pub last-accepted : LastAccepted
 last-accepted t before page db head later ys e none =

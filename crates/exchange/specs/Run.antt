@@ -1,11 +1,12 @@
 -- Two trucks over one table of cell entries: the page calls of both, in any order and any number of them, and what is left of the table.
-use Rattle.std.specs.Prelude.{ℕ, List, [], ◌∷◌, length}
+use Rattle.std.specs.Prelude.{ℕ, List, [], ◌∷◌, length, Result}
 use Rattle.halves.specs.declared.Share.{Share}
 use Rattle.halves.specs.declared.Share.TheVariants.{Whole, First, Second}
 use Rattle.place.specs.declared.Page.{Page}
 use Rattle.table.specs.declared.Entry.{Entry}
-use Rattle.table.specs.declared.PageAnswer.{PageAnswer}
 use Rattle.lent.specs.Call.{answer_of, left_of}
+use Rattle.answers.specs.declared.Refusal.{Refusal}
+use Rattle.table.specs.declared.Head.{Head}
 
 pub data Truck : Type 0 where
   one : Truck
@@ -21,7 +22,7 @@ pub data Call : Type 0 where
   asks : Truck → Page → List ℕ → Call
 
 -- what a call answers that is lent the table ys, and what it leaves of it, as `lent::page` promises them
-abbrev pub answer : Call → List Entry → PageAnswer
+abbrev pub answer : Call → List Entry → Result Head Refusal
 answer (asks t page db) ys = answer_of (half_of t) page db (length ys)
 
 abbrev pub left : Call → List Entry → List Entry

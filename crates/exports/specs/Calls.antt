@@ -1,15 +1,12 @@
 -- What the exported calls answer: the readers' definitions, turned.
-use Rattle.std.specs.Prelude.{ℕ, List, eqb, ℤ}
+use Rattle.std.specs.Prelude.{ℕ, List, eqb, ℤ, Result}
 use Rattle.laws.specs.Pick.{pick}
 use Rattle.reading.specs.declared.Reading.TheVariants.{Old, File}
 use Rattle.answers.specs.declared.Refusal.{Refusal}
-use Rattle.answers.specs.Answer.{Answer}
 use Rattle.header.specs.Header as header
 use Rattle.place.specs.Place.{old_page, file_page}
-use Rattle.shape.specs.Shape.{shape_of, shape_answer}
-use Rattle.page.specs.declared.OpenAnswer.{OpenAnswer}
+use Rattle.shape.specs.Shape.{shape_of}
 use Rattle.page.specs.Open as page
-use Rattle.page.specs.Open.{open_answer}
 use Rattle.cells.specs.Located.{Located, located_of}
 use Rattle.walk.specs.Counted.{count_of}
 use Rattle.trust.specs.Trust.{trusted_count}
@@ -25,7 +22,6 @@ use Rattle.guarded.specs.Guarded as guarded
 use Rattle.spilled.specs.Lent.{Lent}
 use Rattle.spilled.specs.Values as spilled
 use Rattle.marked.specs.Marked as marked
-use Rattle.usual.specs.declared.RowAnswer.{RowAnswer}
 use Rattle.usual.specs.Usual as usual
 use Rattle.turns.specs.declared.types.Header.{Header}
 use Rattle.turns.specs.declared.types.Pages.{Pages}
@@ -44,6 +40,8 @@ use Rattle.turns.specs.Shown.{old_shown, file_shown}
 use Rattle.sources.specs.Lent.{lent_shown}
 use Rattle.run.specs.Run.{Run, run_from}
 use Rattle.gathered.specs.Rows.{lent_in}
+use Rattle.page.specs.declared.Open.{Open}
+use Rattle.usual.specs.declared.Row.{Row}
 
 -- THE DATABASE AND ITS PAGES
 
@@ -51,7 +49,7 @@ abbrev pub header_of : ℕ → List ℕ → Header
 header_of reading db = header_by (header.header_of (reading_by reading) db)
 
 abbrev pub pages_of : ℕ → List ℕ → Pages
-pages_of reading db = pages_by (shape_answer (shape_of (reading_by reading) db))
+pages_of reading db = pages_by (shape_of (reading_by reading) db)
 
 -- ALL ROWS OF A TABLE, by its root page
 
@@ -81,8 +79,8 @@ trusted_over places root db list = list_in (trusted_of places root db) root db l
 abbrev pub head_of : ℕ → ℕ → ℕ → List ℕ → PageHead
 head_of reading number room db = head_by (table.page_of (page_by reading number) room db)
 
-abbrev pub page_opened : ℕ → ℕ → List ℕ → OpenAnswer
-page_opened reading number db = open_answer (page.open_of (page_by reading number) db)
+abbrev pub page_opened : ℕ → ℕ → List ℕ → Result Open Refusal
+page_opened reading number db = page.open_of (page_by reading number) db
 
 -- the entry of cell i, and a table in which the first n are filled
 abbrev pub entry_of : ℕ → ℕ → ℕ → List ℕ → Entry
@@ -96,17 +94,17 @@ entries_over reading number db n ys = filled (page_opened reading number db) db 
 -- in the guarded reading where its number is 2
 abbrev pub opening_of : ℕ → ℕ → List ℕ → Opening
 opening_of reading number db =
-    pick (eqb reading 2) (opening_by reading (open_answer (guarded.open_of number db)))
+    pick (eqb reading 2) (opening_by reading (guarded.open_of number db))
     (opening_by (number_of (reading_by reading)) (page_opened reading number db))
 
 -- cell i of it
-abbrev pub row_in : Opened → ℕ → List ℕ → RowAnswer
+abbrev pub row_in : Opened → ℕ → List ℕ → Result Row Refusal
 row_in opened i db = usual.row_in (eqb opened.reading 2) (open_by opened) i db
 
 -- ONE CELL
 
 -- located or refused
-abbrev pub cell_for : Answer Refusal Located → Cell
+abbrev pub cell_for : Result Located Refusal → Cell
 cell_for x = cell_by (found_by x) (shortest_by x)
 
 abbrev pub old_cell : ℕ → ℕ → List ℕ → Cell
@@ -144,5 +142,5 @@ abbrev pub guarded_lent_of : ℕ → ℕ → ℕ → ℕ → List ℕ → LentVa
 guarded_lent_of number i k room db = lent_shown (marked.value_of number i k room db)
 
 -- cell i of an opened page, in the page's reading
-abbrev pub cell_lent : Opened → ℕ → ℕ → List ℕ → Answer Refusal Lent
+abbrev pub cell_lent : Opened → ℕ → ℕ → List ℕ → Result Lent Refusal
 cell_lent opened i room db = lent_in (eqb opened.reading 2) (open_by opened) i room db

@@ -8,34 +8,36 @@
 
 ghost use Rattle.std.specs.Prelude.{◌≡◌, ◌*◌, ◌^◌, ◌≤◌, ◌<◌, length, get_or};
 ghost use Rattle.std.specs.Int.Signed.{mag};
-ghost use Rattle.fields.specs.Fields.{twos, unsigned, signed};
+ghost use Rattle.fields.specs.Fields.{be, twos, unsigned, signed};
 
-// The number that the first `width` bytes spell, where as many are there. No byte is looked for, so that a reader of a
-// fixed width is one load.
-fn spelt_whole(part: &[u8], width: usize) -> u64
-    requires { (width ≤ 8) × (width ≤ length part.now) }
-    ensures { (result ≡ unsigned width part.now) × (result < 256 ^ width) }
+// The number that all the bytes of a field spell. Where their count is a constant, this is one load.
+fn whole(field: &[u8]) -> u64
+    requires { length field.now ≤ 8 }
+    ensures value { result ≡ be field.now }
+    ensures bound { result < 256 ^ length field.now }
 {
     let mut value: u64 = 0;
-    let mut i: usize = 0;
-    while i < width {
-        value = value * 256 + part[i] as u64;
-        i += 1;
+    for &byte in field {
+        value = value * 256 + u64::from(byte);
     }
     value
 }
 
-// The number that the first `width` bytes spell.
+// The number that the first `width` bytes spell. The two ways do not meet before the field is read, so that a reader of a fixed
+// width is one load.
 fn spelt(part: &[u8], width: usize) -> u64
     requires { width ≤ 8 }
-    ensures { (result ≡ unsigned width part.now) × (result < 256 ^ width) }
+    ensures value { result ≡ unsigned width part.now }
+    ensures bound { result < 256 ^ width }
 {
-    if part.len() < width {
-        return spelt_whole(part, part.len());
+    match part.get(..width) {
+        Some(field) => whole(field),
+        None => whole(part),
     }
-    spelt_whole(part, width)
 }
 
+// One reader for a type, in nom's names, and not one with the width as a const parameter: that would leave the turn to the type to
+// every caller.
 pub fn be_u16(part: &[u8]) -> u16
     ensures { result ≡ unsigned 2 part.now }
 {
@@ -68,8 +70,10 @@ const TOPS: [u64; 8] = [
 
 // The number whose two's complement is `v`, where `top` is the weight of the top bit.
 fn from_twos(v: u64, top: u64) -> i64
-    requires { (v < 2 * top) × (top ≤ 2 ^ 63) }
-    ensures { (result ≡ twos (2 * top) v) × (mag result < top) }
+    requires within { v < 2 * top }
+    requires at_most { top ≤ 2 ^ 63 }
+    ensures value { result ≡ twos (2 * top) v }
+    ensures bound { mag result < top }
 {
     if v < top {
         v as i64
@@ -80,8 +84,10 @@ fn from_twos(v: u64, top: u64) -> i64
 
 // The number in two's complement that the first `width` bytes spell.
 fn signed_spelt(part: &[u8], width: usize) -> i64
-    requires { (1 ≤ width) × (width ≤ 8) }
-    ensures { (result ≡ signed width part.now) × (2 * mag result < 256 ^ width) }
+    requires some { 1 ≤ width }
+    requires at_most { width ≤ 8 }
+    ensures value { result ≡ signed width part.now }
+    ensures bound { 2 * mag result < 256 ^ width }
 {
     from_twos(spelt(part, width), TOPS[width - 1])
 }
@@ -98,12 +104,13 @@ pub fn be_i16(part: &[u8]) -> i16
     signed_spelt(part, 2) as i16
 }
 
-// A byte, for a sum.
+// A byte, for a sum. With the bytes bound by a slice's pattern, a number of 24 bits cost one instruction more.
 fn byte(part: &[u8], i: usize) -> u64
     requires { i < length part.now }
-    ensures { (result ≡ get_or part.now i 0) × (result < 256) }
+    ensures value { result ≡ get_or part.now i 0 }
+    ensures bound { result < 256 }
 {
-    part[i] as u64
+    u64::from(part[i])
 }
 
 // The sum of the bytes times powers of 256, less 2 to the 24 where the top bit is set.

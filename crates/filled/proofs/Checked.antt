@@ -1,12 +1,14 @@
 -- The values of a row whose record was checked, as they are stored: a type of one byte by its manner, a longer one by its reading.
 use Prim.Native.Nat.{ℕ, ◌+◌, ◌-◌, ◌*◌, ◌≤◌, ◌<◌}
 use mathlib.Core.Path.{◌≡◌, refl, sym, ap}
-use mathlib.Core.Logic.{◌⊎◌, inl, inr}
+use mathlib.Core.Bool.{Bool, true, false}
 use mathlib.Core.List.{List}
 use native.Mathlib.Omega.{arith}
+use lib.Dec.{ltb}
 use lib.IntN.{ℤ}
 use lib.ListN.{length, take, drop, get_or}
 use lib.Seq.{sets}
+use borrow.Author.Tests.{ltb-true, ltb-false}
 use Rattle.laws.proofs.Parts.{tail}
 use Rattle.varint.specs.declared.Number.{Number}
 use Rattle.varint.specs.Varint.{varint_of}
@@ -56,16 +58,14 @@ module _ (places : ℕ) (first : Cursor) (db : List ℕ) (lent : List ℤ) (room
   goes_on x l {after} {there} v e s t =
       rw (s, t) (one_more places first db lent room table here n h (words_of v) (behind x.t.length x.w here) l x.step (ap words_of (sym e)) refl, x.left)
 
-  -- no value more: `most` is the smaller of both numbers
-  pub comes-to-end : {A B : Type 0} {most : ℕ} → Left r columns db here n → ◌⊎◌ (A × (most ≡ columns)) (B × (most ≡ places)) → most ≤ n
+  -- no value more: there is no column left, or no place
+  pub comes-to-end : Left r columns db here n → (n < columns → places ≤ n)
       → (filled_of n here ≡ filled_by (run_from places first db)) × (table ≡ over (run_from places first db) lent)
-  comes-to-end k (inl p) l = all-stored places first db lent room table here n h (run-done (places - n) here db (none_left db here n k (omega (arith, p.1))))
-  comes-to-end k (inr p) l =
-      let full : places - n ≡ 0 = omega (arith, p.1) in
-      all-stored places first db lent room table here n h (rw full (run-full here db))
-
--- what is the smaller of two numbers is within both
-pub smaller : {A B : Type 0} {columns places most : ℕ} → (A → columns < places) → (B → places ≤ columns)
-    → ◌⊎◌ (A × (most ≡ columns)) (B × (most ≡ places)) → (most ≤ columns) × (most ≤ places)
-smaller f g (inl p) = omega (arith, p.1, f p.0)
-smaller f g (inr p) = omega (arith, p.1, g p.0)
+  comes-to-end k full = go (ltb n columns) refl
+    where
+      go : (b : Bool) → ltb n columns ≡ b → (filled_of n here ≡ filled_by (run_from places first db)) × (table ≡ over (run_from places first db) lent)
+      go true e =
+          let l = full (ltb-true n columns e) in
+          let none : places - n ≡ 0 = omega arith in
+          all-stored places first db lent room table here n h (rw none (run-full here db))
+      go false e = all-stored places first db lent room table here n h (run-done (places - n) here db (none_left db here n k (ltb-false n columns e)))

@@ -16,6 +16,9 @@ use Rattle.manners.proofs.Laws.{bytes-as}
 
 pub stored-as : (manner : Manner) (serial at : ℕ) (s : List ℕ) (table : List ℤ) (place : ℕ) {k end : ℕ} {v : Value} {after : List ℤ}
     → serial ≡ k → k < 10 → end ≡ at + get_or widths k 0 → v ≡ value_by manner k at s → after ≡ sets table place (words_of v)
-    → (end ≡ at + bytes_in (width_of serial)) × (after ≡ sets table place (words_of (value_by manner serial at s)))
+    → record { end : end ≡ at + bytes_in (width_of serial); table : after ≡ sets table place (words_of (value_by manner serial at s)) }
 stored-as manner serial at s table place i l e v p =
-    (e ∙ ap (λ (n : ℕ). at + n) (sym (bytes-as serial i l)), rw i (p ∙ ap (λ u. sets table place (words_of u)) v))
+    record {
+      end = e ∙ ap (λ (n : ℕ). at + n) (sym (bytes-as serial i l));
+      table = rw i (p ∙ ap (λ u. sets table place (words_of u)) v);
+    }

@@ -11,7 +11,6 @@ ghost use Rattle.filled.specs.Row.{row_by, row_over};
 use page::Open;
 use turns::rows;
 use turns::types::Row;
-use usual::RowAnswer;
 
 // Cell `i` of an opened page, in the guarded reading or in that of the page, with its values. That they are all there is known
 // where the row is found, so both are one function.
@@ -19,16 +18,11 @@ pub fn row_in(db: &[u8], opened: Open, guarded: bool, i: usize, table: &mut [i64
     ensures { (result ≡ row_by (length table.old / 5) db.now (row_in guarded opened i db.now))
         × (table.new ≡ row_over (length table.old / 5) db.now (row_in guarded opened i db.now) table.old) }
 {
-    let answer = usual::row_in(db, opened, guarded, i);
-    match answer {
-        RowAnswer::Refused(refusal) => rows::no_row(refusal),
-        RowAnswer::Shown {
-            number,
-            columns,
-            cursor,
-        } => {
-            let filled = whole::fill(db, cursor, columns, table);
-            rows::row_of(number, columns, filled)
+    match usual::row_in(db, opened, guarded, i) {
+        Err(refusal) => rows::no_row(refusal),
+        Ok(found) => {
+            let filled = whole::fill(db, found.cursor, found.columns, table);
+            rows::row_of(found.number, found.columns, filled)
         }
     }
 }

@@ -1,8 +1,7 @@
 // The values of a row whose record was checked, into a table that is lent: no value is looked for that might not be there.
-ghost use Rattle.std.specs.Prelude.{◌≡◌, ◌+◌, ◌/◌, ◌^◌, ◌≤◌, ◌<◌, length};
+ghost use Rattle.std.specs.Prelude.{◌≡◌, ◌+◌, ◌/◌, ◌^◌, ◌≤◌, ◌<◌, length, Some};
 ghost use Rattle.std.proofs.lemmas.List.Edits.{sets};
 ghost use Rattle.serial.specs.Serial.{length_of, width_of};
-ghost use Rattle.serial.specs.declared.Width.TheVariants.{Bytes};
 ghost use Rattle.turns.specs.Shown.{integer_of};
 ghost use Rattle.turns.specs.Words.{words_of};
 ghost use Rattle.run.specs.Run.{run_from, filled_by, over};
@@ -21,7 +20,8 @@ use turns::types::{Filled, Value};
 // Stores a value, and answers where it ends.
 fn put_at(table: &mut [i64], place: usize, value: Value, end: usize) -> usize
     requires { place + 5 ≤ length table.old }
-    ensures { (result ≡ end) × (table.new ≡ sets table.old place (words_of value)) }
+    ensures end { result ≡ end }
+    ensures table { table.new ≡ sets table.old place (words_of value) }
 {
     words::put_value(&mut table[place..place + 5], value);
     end
@@ -30,15 +30,19 @@ fn put_at(table: &mut [i64], place: usize, value: Value, end: usize) -> usize
 // Stores an integer that is told to be of a width.
 fn put_integer(table: &mut [i64], place: usize, width: u8, integer: i64, end: usize) -> usize
     requires { place + 5 ≤ length table.old }
-    ensures { (result ≡ end) × (table.new ≡ sets table.old place (words_of (integer_of width integer))) }
+    ensures end { result ≡ end }
+    ensures table { table.new ≡ sets table.old place (words_of (integer_of width integer)) }
 {
     put_at(table, place, integer_of(width, integer), end)
 }
 
 // Stores a text or a blob, and answers where it ends.
 fn put_long(table: &mut [i64], place: usize, least: u64, serial: u64, at: usize) -> usize
-    requires { (place + 5 ≤ length table.old) × (12 ≤ serial) × (at + length_of serial < 2 ^ 64) }
-    ensures { (result ≡ at + length_of serial) × (table.new ≡ sets table.old place (words_of (long_from least serial at))) }
+    requires place { place + 5 ≤ length table.old }
+    requires long { 12 ≤ serial }
+    requires fits { at + length_of serial < 2 ^ 64 }
+    ensures end { result ≡ at + length_of serial }
+    ensures table { table.new ≡ sets table.old place (words_of (long_from least serial at)) }
 {
     let len = ((serial - 12) / 2) as usize;
     let end = at + len;
@@ -60,16 +64,18 @@ fn put_value(
     serial: u64,
     at: usize,
 ) -> usize
-    requires { (place + 5 ≤ length table.old) × (width_of serial ≡ Bytes (bytes_in (width_of serial))) × (at + bytes_in (width_of serial) < 2 ^ 64) }
-    ensures { (result ≡ at + bytes_in (width_of serial))
-        × (table.new ≡ sets table.old place (words_of (value_by manner serial at part.now))) }
+    requires place { place + 5 ≤ length table.old }
+    requires width { width_of serial ≡ Some (bytes_in (width_of serial)) }
+    requires fits { at + bytes_in (width_of serial) < 2 ^ 64 }
+    ensures end { result ≡ at + bytes_in (width_of serial) }
+    ensures table { table.new ≡ sets table.old place (words_of (value_by manner serial at part.now)) }
 {
     match serial {
         0 => put_at(table, place, empty_value(), at),
-        1 => put_integer(table, place, manner.i8, be_i8(part) as i64, at + 1),
-        2 => put_integer(table, place, manner.i16, be_i16(part) as i64, at + 2),
-        3 => put_integer(table, place, manner.i32, be_i24(part) as i64, at + 3),
-        4 => put_integer(table, place, manner.i32, be_i32(part) as i64, at + 4),
+        1 => put_integer(table, place, manner.i8, i64::from(be_i8(part)), at + 1),
+        2 => put_integer(table, place, manner.i16, i64::from(be_i16(part)), at + 2),
+        3 => put_integer(table, place, manner.i32, i64::from(be_i24(part)), at + 3),
+        4 => put_integer(table, place, manner.i32, i64::from(be_i32(part)), at + 4),
         5 => put_integer(table, place, manner.i64, load_i48(part), at + 6),
         6 => put_integer(table, place, manner.i64, be_i64(part), at + 8),
         7 => put_at(table, place, real_of(be_u64(part)), at + 8),
@@ -84,13 +90,10 @@ fn moved(cursor: Cursor, length: usize, value: usize) -> Cursor
     requires { cursor.at + length < 2 ^ 64 }
     ensures { result ≡ moved_to length value cursor }
 {
-    let reading = cursor.reading;
     Cursor {
-        reading,
         at: cursor.at + length,
-        stop: cursor.stop,
         value,
-        end: cursor.end,
+        ..cursor
     }
 }
 
@@ -103,26 +106,21 @@ pub fn fill(db: &[u8], first: Cursor, columns: usize, table: &mut [i64]) -> Fill
 {
     let reading = first.reading;
     let manner = manner_of(reading);
-    let places = words::places_of(table.len());
-    let most = if columns < places { columns } else { places };
+    let most = columns.min(words::places_of(table.len()));
     let mut here = first;
-    let mut n: usize = 0;
-    while n < most {
-        let type_at = here.at;
+    for n in 0..most {
         let at = here.value;
-        let serial = db[type_at] as u64;
+        let serial = u64::from(db[here.at]);
         if serial < 128 {
             let end = put_value(&db[at..], table, 5 * n, manner, serial, at);
             here = moved(here, 1, end);
         } else {
-            let stop = here.stop;
-            let number = type_in(&db[type_at..stop]);
+            let number = type_in(&db[here.at..here.stop]);
             let end = at + width_in(number.value) as usize;
             let value = words::value_at(db, reading, number.value, at);
             let end = put_at(table, 5 * n, value, end);
             here = moved(here, number.length, end);
         }
-        n += 1;
     }
-    filled_of(n, here)
+    filled_of(most, here)
 }

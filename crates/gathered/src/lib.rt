@@ -7,26 +7,22 @@
 ghost use Rattle.std.specs.Prelude.{◌≡◌, ◌/◌, length};
 ghost use Rattle.gathered.specs.Rows.{lent_in, row_from, table_from, row_lent, table_lent, buffer_lent};
 
-use columns::Cursor;
 use page::Open;
-use row::{FoundAnswer, FoundCell};
+use row::FoundCell;
 use sources::lent_row;
-use spilled::LentAnswer;
+use spilled::FoundIn;
 use spills::Source;
 use turns::rows;
 use turns::types::LentRow;
-use varint::Number;
 
 // A cell that was found, with its values from the bytes that its cursor counts in.
 fn row_from(bytes: &[u8], found: FoundCell, source: Source, table: &mut [i64]) -> LentRow
-    ensures { (result ≡ row_from (length table.old / 5) bytes.now found source)
-        × (table.new ≡ table_from (length table.old / 5) bytes.now found table.old) }
+    ensures answer { result ≡ row_from (length table.old / 5) bytes.now found source }
+    ensures table { table.new ≡ table_from (length table.old / 5) bytes.now found table.old }
 {
-    let cell = found.cell;
-    let row: Number = cell.row;
-    let cursor: Cursor = found.cursor;
+    let FoundCell { cell, cursor, .. } = found;
     let filled = run::fill(bytes, cursor, table);
-    lent_row(rows::row_of(row.value, cell.columns, filled), source)
+    lent_row(rows::row_of(cell.row.value, cell.columns, filled), source)
 }
 
 // Row `i` of an opened page, in the guarded reading or in that of the page.
@@ -38,30 +34,26 @@ pub fn row_in(
     table: &mut [i64],
     buffer: &mut [u8],
 ) -> LentRow
-    ensures { (result ≡ row_lent (length table.old / 5) db.now (lent_in guarded opened i (length buffer.old) db.now))
-        × (table.new ≡ table_lent (length table.old / 5) db.now (lent_in guarded opened i (length buffer.old) db.now) table.old)
-        × (buffer.new ≡ buffer_lent guarded opened i db.now buffer.old) }
+    ensures answer { result ≡ row_lent (length table.old / 5) db.now (lent_in guarded opened i (length buffer.old) db.now) }
+    ensures table { table.new ≡ table_lent (length table.old / 5) db.now (lent_in guarded opened i (length buffer.old) db.now) table.old }
+    ensures buffer { buffer.new ≡ buffer_lent guarded opened i db.now buffer.old }
 {
     if guarded {
-        let answer = marked::found_in(db, opened, i, buffer);
-        match answer {
-            FoundAnswer::Refused(refusal) => {
-                return lent_row(rows::no_row(refusal), Source::Database);
-            }
-            FoundAnswer::Shown(found) => {
-                return row_from(db, found, Source::Database, table);
-            }
-        }
+        return match marked::found_in(db, opened, i, buffer) {
+            Err(refusal) => lent_row(rows::no_row(refusal), Source::Database),
+            Ok(found) => row_from(db, found, Source::Database, table),
+        };
     }
-    let answer = spilled::found_in(db, opened, i, buffer);
-    match answer {
-        LentAnswer::Refused(refusal) => lent_row(rows::no_row(refusal), Source::Database),
-        LentAnswer::Shown { found, source } => match source {
+    match spilled::found_in(db, opened, i, buffer) {
+        Err(refusal) => lent_row(rows::no_row(refusal), Source::Database),
+        Ok(FoundIn { found, source }) => match source {
             Source::Database => row_from(db, found, source, table),
-            Source::Buffer => {
-                let cell = found.cell;
-                row_from(parts::part(buffer, 0, cell.payload), found, source, table)
-            }
+            Source::Buffer => row_from(
+                parts::part(buffer, 0, found.cell.payload),
+                found,
+                source,
+                table,
+            ),
         },
     }
 }

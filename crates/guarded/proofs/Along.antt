@@ -3,7 +3,6 @@ use Prim.Native.Nat.{ℕ}
 use mathlib.Core.Path.{◌≡◌, refl, ◌∙◌}
 use mathlib.Core.List.{List}
 use Rattle.answers.specs.declared.Refusal.{Refusal}
-use Rattle.answers.specs.Answer.{Answer, refused, shown}
 use Rattle.place.specs.Place.{file_page}
 use Rattle.cells.specs.Located as cells
 use Rattle.cells.specs.Located.{Located}
@@ -13,14 +12,15 @@ use Rattle.row.specs.Column.{column_by, column_from}
 use Rattle.row.proofs.Placed.{placed, column-along}
 use Rattle.guarded.specs.Guarded.{located_of}
 use Rattle.guarded.proofs.Guard.{guarded}
+use Rattle.std.specs.Prelude.{Err, Ok, Result}
 
 -- what is located is what the file reading locates
-pub file-located : (n i : ℕ) (db : List ℕ) {l : Located} → located_of n i db ≡ shown l → cells.located_of (file_page n) i db ≡ shown l
+pub file-located : (n i : ℕ) (db : List ℕ) {l : Located} → located_of n i db ≡ Ok l → cells.located_of (file_page n) i db ≡ Ok l
 file-located n i db e = let g = guarded n i db e in located-open (file_page n) i db g.opened ∙ g.is.located
 
 pub found-column : (k n i : ℕ) (db : List ℕ) → column_from k db (found_by (located_of n i db)) ≡ column_by k (located_of n i db)
 found-column k n i db = go (located_of n i db) refl
   where
-    go : (x : Answer Refusal Located) → located_of n i db ≡ x → column_from k db (found_by x) ≡ column_by k x
-    go (refused refusal) e = refl
-    go (shown l) e = column-along k l db (placed (file_page n) i db (file-located n i db e))
+    go : (x : Result Located Refusal) → located_of n i db ≡ x → column_from k db (found_by x) ≡ column_by k x
+    go (Err refusal) e = refl
+    go (Ok l) e = column-along k l db (placed (file_page n) i db (file-located n i db e))

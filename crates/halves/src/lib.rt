@@ -19,8 +19,7 @@ pub fn start_of(share: Share, places: usize) -> usize
     ensures { result ≡ start_of share places }
 {
     match share {
-        Share::Whole => 0,
-        Share::First => 0,
+        Share::Whole | Share::First => 0,
         Share::Second => places / 2,
     }
 }
@@ -31,7 +30,6 @@ pub fn room_of(share: Share, places: usize) -> usize
 {
     match share {
         Share::Whole => places,
-        Share::First => places / 2,
-        Share::Second => places / 2,
+        Share::First | Share::Second => places / 2,
     }
 }

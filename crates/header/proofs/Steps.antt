@@ -1,17 +1,18 @@
 -- What the header's functions come to step by step: a field by the table, the opening byte by byte, a `match` on a number.
 use Prim.Native.Nat.{ℕ, zero, suc, ◌+◌, ◌-◌, ◌≤◌, ◌<◌}
-use mathlib.Core.Path.{◌≡◌, refl}
+use mathlib.Core.Path.{◌≡◌, refl, sym}
 use mathlib.Core.Logic.{◌⊎◌, inl, inr}
 use mathlib.Core.List.{List, [], ◌∷◌}
 use mathlib.Core.Bool.{Bool, true, false, ◌&&◌, or-true}
 use native.Mathlib.Nat.{le_trans, min-le_left}
-use native.Mathlib.Numerals.{add-one}
 use native.Mathlib.Omega.{arith}
 use lib.Dec.{leb, eqb, leb→le}
-use lib.ListN.{length, take, drop, get_or, length-take, drop_of_length-le}
-use lib.Seq.{drop-cons, take_all}
+use lib.Pointwise.{pointwise}
+use Rattle.std.specs.List.{starts_with}
+use lib.ListN.{length, take, drop, get_or, length-take}
+use lib.Seq.{take_all}
 use mir.Facts.{and_yes}
-use borrow.Author.Tests.{eq-eqb, ne_eqb}
+use borrow.Author.Tests.{eq-eqb, ne_eqb, eqb-true, eqb-false}
 use Rattle.laws.proofs.Table.{at}
 use Rattle.tables.specs.Tables.{field_at, field_width}
 use Rattle.fields.specs.Fields.{unsigned}
@@ -42,35 +43,22 @@ read db at width h =
 
 -- THE OPENING
 
--- what is yet to be compared from place i on is alike
-abbrev pub rest : List ℕ → List ℕ → ℕ → Bool
-rest s l i = alike (take (length l - i) (drop i s)) (drop i l)
-
-module _ (s l : List ℕ) (i : ℕ) where
-  pub rest-done : length l ≤ i → rest s l i ≡ true
-  rest-done h = let e : length l - i ≡ 0 = omega arith in rw (e, drop_of_length-le l h)
-
-  module _ (h : i < length l) where
-    left : length l - i ≡ suc (length l - suc i)
-    left = omega arith
-
-    module _ (k : i < length s) where
-      pub rest-same : get_or s i 0 ≡ get_or l i 0 → rest s l i ≡ rest s l (i + 1)
-      rest-same e = rw (left, add-one, drop-cons s i 0, drop-cons l i 0, eq-eqb (get_or s i 0) (get_or l i 0) e)
-
-      pub rest-differs : (get_or s i 0 ≡ get_or l i 0 → ⊥) → rest s l i ≡ false
-      rest-differs e = rw (left, drop-cons s i 0, drop-cons l i 0, ne_eqb (get_or s i 0) (get_or l i 0) e)
-
--- what is too short is not alike
-pub short-unlike : (s l : List ℕ) → length s < length l → alike s l ≡ false
-short-unlike [] [] h = absurd (omega arith)
-short-unlike [] (y ∷ l) h = refl
-short-unlike (x ∷ s) [] h = absurd (omega arith)
-short-unlike (x ∷ s) (y ∷ l) h = rw (short-unlike s l (omega arith)) (and-false (eqb x y))
+same-either : (x y : ℕ) → eqb x y ≡ eqb y x
+same-either x y = go (eqb y x) refl
   where
-    and-false : (b : Bool) → (b && false) ≡ false
-    and-false true = refl
-    and-false false = refl
+    go : (b : Bool) → eqb y x ≡ b → eqb x y ≡ b
+    go true e = eq-eqb x y (sym (eqb-true y x e))
+    go false e = ne_eqb x y (λ h. eqb-false y x e (sym h))
+
+-- as std compares
+alike-pairs : (s l : List ℕ) → pointwise eqb l s ≡ alike s l
+alike-pairs [] [] = refl
+alike-pairs [] (y ∷ l) = refl
+alike-pairs (x ∷ s) [] = refl
+alike-pairs (x ∷ s) (y ∷ l) = rw (same-either y x, alike-pairs s l)
+
+pub begins : (s l : List ℕ) → starts_with eqb s l ≡ alike (take (length l) s) l
+begins s l = alike-pairs (take (length l) s) l
 
 -- ONE OF A LIST
 

@@ -2,22 +2,17 @@
 --
 -- The checks are the rows of docs/READINGS.md for a whole database, in their order. The old reading makes the first four;
 -- it takes any page size and drops the reserved space.
-use Rattle.std.specs.Prelude.{ℕ, ◌-◌, List, [], ◌∷◌, ◌++◌, Bool, true, false, not, ◌||◌, ◌&&◌, ltb, eqb, length, take, drop, get_or}
+use Rattle.std.specs.Prelude.{ℕ, ◌-◌, List, [], ◌∷◌, ◌++◌, Bool, true, false, not, ◌||◌, ◌&&◌, ltb, eqb, length, take, drop, get_or, Err, Ok, Result, ⊤}
 use Rattle.laws.specs.Pick.{pick}
 use Rattle.tables.specs.Tables.{field_at, field_width}
 use Rattle.fields.specs.Fields.{unsigned}
 use Rattle.reading.specs.declared.Reading.{Reading}
 use Rattle.reading.specs.declared.Reading.TheVariants.{Old as old, File as file}
-use Rattle.answers.specs.declared.Checked.{Checked}
-use Rattle.answers.specs.declared.Checked.TheVariants.{Passed, Failed}
 use Rattle.answers.specs.declared.Flaw.TheVariants as fl
 use Rattle.answers.specs.Checks.{Check, check, first}
 use Rattle.header.specs.declared.Header.{Header}
-use Rattle.header.specs.declared.HeaderAnswer.{HeaderAnswer}
-use Rattle.header.specs.declared.HeaderAnswer.TheVariants as ha
 use Rattle.header.specs.declared.Sizes.{Sizes}
-use Rattle.header.specs.declared.SizesAnswer.{SizesAnswer}
-use Rattle.header.specs.declared.SizesAnswer.TheVariants as sh
+use Rattle.answers.specs.declared.Flaw.{Flaw}
 
 -- FIELDS
 
@@ -80,7 +75,7 @@ abbrev pub header_checks : Reading → List ℕ → List Check
 header_checks old db = both_checks db
 header_checks file db = both_checks db ++ file_checks db
 
-unfoldable pub checked_of : Reading → List ℕ → Checked
+unfoldable pub checked_of : Reading → List ℕ → Result ⊤ Flaw
 checked_of r db = first (header_checks r db)
 
 -- ANSWERS
@@ -116,11 +111,11 @@ fields_in r db =
       sqlite_version_number = field_of 20 db;
     }
 
-abbrev pub header_by : Header → Checked → HeaderAnswer
-header_by h Passed = ha.Shown h
-header_by h (Failed flaw) = ha.Refused flaw
+abbrev pub header_by : Header → Result ⊤ Flaw → Result Header Flaw
+header_by h (Ok tt) = Ok h
+header_by h (Err flaw) = Err flaw
 
-unfoldable pub header_of : Reading → List ℕ → HeaderAnswer
+unfoldable pub header_of : Reading → List ℕ → Result Header Flaw
 header_of r db = header_by (fields_in r db) (checked_of r db)
 
 abbrev pub sizes_in : Reading → List ℕ → Sizes
@@ -133,9 +128,9 @@ sizes_in r db =
       version_valid_for_no = field_of 19 db;
     }
 
-abbrev pub sizes_by : Sizes → Checked → SizesAnswer
-sizes_by s Passed = sh.Shown s
-sizes_by s (Failed flaw) = sh.Refused flaw
+abbrev pub sizes_by : Sizes → Result ⊤ Flaw → Result Sizes Flaw
+sizes_by s (Ok tt) = Ok s
+sizes_by s (Err flaw) = Err flaw
 
-unfoldable pub sizes_of : Reading → List ℕ → SizesAnswer
+unfoldable pub sizes_of : Reading → List ℕ → Result Sizes Flaw
 sizes_of r db = sizes_by (sizes_in r db) (checked_of r db)

@@ -3,13 +3,13 @@
 // From the file format, 1.3 "The Database Header", and the Rust's `db_header`, whose names the fields keep.
 #![tactic(auto)]
 
-ghost use Rattle.std.specs.Prelude.{◌≡◌, ◌≤◌, ◌<◌, length, take};
+ghost use Rattle.std.specs.Prelude.{◌≡◌, ◌<◌, take, Ok, Err, IfOk, IfErr};
 ghost use Rattle.answers.specs.Checks.{first};
-ghost use Rattle.header.specs.Header.{field_of, page_size_of, usable, end, alike, opening, file_checks, checked_of, reserved_in, fields_in, header_of, sizes_of};
+ghost use Rattle.header.specs.Header.{field_of, page_size_of, usable, end, file_checks, checked_of, reserved_in, fields_in, header_of, sizes_of};
 
-use answers::{Checked, Flaw};
+use answers::Flaw;
 use reading::Reading;
-use tables::{FIELD_AT, FIELD_WIDTH, wide};
+use tables::{FIELD_AT, FIELD_WIDTH};
 
 // The largest database that is read, in bytes.
 const LIMIT: usize = 1_073_741_824;
@@ -45,12 +45,6 @@ pub struct Header {
     pub sqlite_version_number: u32,
 }
 
-#[derive(Clone, Copy)]
-pub enum HeaderAnswer {
-    Shown(Header),
-    Refused(Flaw),
-}
-
 // What the layers below the header know of it.
 #[derive(Clone, Copy)]
 pub struct Sizes {
@@ -63,184 +57,150 @@ pub struct Sizes {
     pub version_valid_for_no: u32,
 }
 
-#[derive(Clone, Copy)]
-pub enum SizesAnswer {
-    Shown(Sizes),
-    Refused(Flaw),
+// Field `i` of the table, of the header's bytes.
+fn field(head: &[u8; 100], i: usize) -> u32
+    requires { i < 21 }
+    ensures { result ≡ field_of i head.now }
+{
+    let at = usize::from(FIELD_AT[i]);
+    let end = at + usize::from(FIELD_WIDTH[i]);
+    fields::be_u32(&head[at..end])
 }
 
-// Field `i` of the table.
-fn field(db: &[u8], i: usize) -> u32
-    requires { (i < 21) × (100 ≤ length db.now) }
-    ensures { result ≡ field_of i db.now }
+fn page_size(head: &[u8; 100]) -> u32
+    ensures { result ≡ page_size_of head.now }
 {
-    let at = wide(FIELD_AT[i]);
-    let end = at + wide(FIELD_WIDTH[i]);
-    fields::be_u32(&db[at..end])
-}
-
-// Whether the database begins with the opening bytes.
-fn opens(db: &[u8]) -> bool
-    ensures { result ≡ alike (take 16 db.now) opening }
-{
-    if db.len() < 16 {
-        return false;
-    }
-    let mut i: usize = 0;
-    while i < 16 {
-        if db[i] != OPENING[i] {
-            return false;
-        }
-        i += 1;
-    }
-    true
-}
-
-fn page_size(db: &[u8]) -> u32
-    requires { 100 ≤ length db.now }
-    ensures { (result ≡ page_size_of db.now) × (result ≤ 65536) }
-{
-    let size = field(db, 0);
+    let size = field(head, 0);
     if size == 1 { 65536 } else { size }
 }
 
 // The bytes of a page less the reserved space; 0 where that is larger.
-fn usable_size(db: &[u8]) -> u32
-    requires { 100 ≤ length db.now }
-    ensures { (result ≡ usable db.now) × (result ≤ 65536) }
+fn usable_size(head: &[u8; 100]) -> u32
+    ensures { result ≡ usable head.now }
 {
-    let size = page_size(db);
-    let reserved = field(db, 3);
-    if size < reserved { 0 } else { size - reserved }
+    page_size(head).saturating_sub(field(head, 3))
 }
 
 // The checks of the file reading alone.
-fn file_checked(db: &[u8]) -> Checked
-    requires { 100 ≤ length db.now }
-    ensures { result ≡ first (file_checks db.now) }
+fn file_checked(head: &[u8; 100]) -> Result<(), Flaw>
+    ensures { result ≡ first (file_checks head.now) }
 {
-    let size = field(db, 0);
-    match size {
-        1 | 512 | 1024 | 2048 | 4096 | 8192 | 16384 | 32768 => {}
-        _ => {
-            return Checked::Failed(Flaw::PageSizeUnfit);
+    if !matches!(
+        field(head, 0),
+        1 | 512 | 1024 | 2048 | 4096 | 8192 | 16384 | 32768
+    ) {
+        return Err(Flaw::PageSizeUnfit);
+    }
+    if usable_size(head) < 480 {
+        return Err(Flaw::UsableTooSmall);
+    }
+    if 2 < field(head, 2) {
+        return Err(Flaw::ReadVersionAbove);
+    }
+    if field(head, 4) != 64 || field(head, 5) != 32 || field(head, 6) != 32 {
+        return Err(Flaw::FractionsDiffer);
+    }
+    Ok(())
+}
+
+// The header's bytes, of a database that passes the checks.
+fn head_of(db: &[u8], reading: Reading) -> Result<&[u8; 100], Flaw>
+    ensures checks { IfErr result (λ flaw. checked_of reading db.now ≡ Err flaw) }
+    ensures passed { IfOk result (λ head. checked_of reading db.now ≡ Ok tt) }
+    ensures head { IfOk result (λ head. head.now ≡ take 100 db.now) }
+{
+    if LIMIT < db.len() {
+        return Err(Flaw::OverLimit);
+    }
+    if !db.starts_with(&OPENING) {
+        return Err(Flaw::OpeningDiffers);
+    }
+    let Some(head) = db.first_chunk::<100>() else {
+        return Err(Flaw::HeaderCut);
+    };
+    let encoding = field(head, 15);
+    if encoding < 1 || 3 < encoding {
+        return Err(Flaw::EncodingUnknown);
+    }
+    match reading {
+        Reading::Old => Ok(head),
+        Reading::File => {
+            file_checked(head)?;
+            Ok(head)
         }
     }
-    if usable_size(db) < 480 {
-        return Checked::Failed(Flaw::UsableTooSmall);
-    }
-    if 2 < field(db, 2) {
-        return Checked::Failed(Flaw::ReadVersionAbove);
-    }
-    if field(db, 4) != 64 {
-        return Checked::Failed(Flaw::FractionsDiffer);
-    }
-    if field(db, 5) != 32 {
-        return Checked::Failed(Flaw::FractionsDiffer);
-    }
-    if field(db, 6) != 32 {
-        return Checked::Failed(Flaw::FractionsDiffer);
-    }
-    Checked::Passed
 }
 
 // The checks that every call makes first.
-pub fn checked(db: &[u8], reading: Reading) -> Checked
+pub fn checked(db: &[u8], reading: Reading) -> Result<(), Flaw>
     ensures { result ≡ checked_of reading db.now }
 {
-    if LIMIT < db.len() {
-        return Checked::Failed(Flaw::OverLimit);
-    }
-    if !opens(db) {
-        return Checked::Failed(Flaw::OpeningDiffers);
-    }
-    if db.len() < 100 {
-        return Checked::Failed(Flaw::HeaderCut);
-    }
-    let encoding = field(db, 15);
-    if encoding < 1 {
-        return Checked::Failed(Flaw::EncodingUnknown);
-    }
-    if 3 < encoding {
-        return Checked::Failed(Flaw::EncodingUnknown);
-    }
-    match reading {
-        Reading::Old => Checked::Passed,
-        Reading::File => file_checked(db),
-    }
+    head_of(db, reading)?;
+    Ok(())
 }
 
-pub fn header_of(db: &[u8], reading: Reading) -> HeaderAnswer
+pub fn header_of(db: &[u8], reading: Reading) -> Result<Header, Flaw>
     ensures { result ≡ header_of reading db.now }
 {
-    let passed = checked(db, reading);
-    match passed {
-        Checked::Failed(flaw) => HeaderAnswer::Refused(flaw),
-        Checked::Passed => HeaderAnswer::Shown(fields_in(db, reading)),
-    }
+    let head = head_of(db, reading)?;
+    Ok(fields_in(head, reading))
 }
 
-pub fn sizes_of(db: &[u8], reading: Reading) -> SizesAnswer
+pub fn sizes_of(db: &[u8], reading: Reading) -> Result<Sizes, Flaw>
     ensures { result ≡ sizes_of reading db.now }
 {
-    let passed = checked(db, reading);
-    match passed {
-        Checked::Failed(flaw) => SizesAnswer::Refused(flaw),
-        Checked::Passed => SizesAnswer::Shown(Sizes {
-            page_size: page_size(db),
-            end: end_of(db, reading),
-            db_size: field(db, 8),
-            file_change_counter: field(db, 7),
-            version_valid_for_no: field(db, 19),
-        }),
-    }
+    let head = head_of(db, reading)?;
+    Ok(Sizes {
+        page_size: page_size(head),
+        end: end_of(head, reading),
+        db_size: field(head, 8),
+        file_change_counter: field(head, 7),
+        version_valid_for_no: field(head, 19),
+    })
 }
 
-fn end_of(db: &[u8], reading: Reading) -> u32
-    requires { 100 ≤ length db.now }
-    ensures { result ≡ end reading db.now }
+fn end_of(head: &[u8; 100], reading: Reading) -> u32
+    ensures { result ≡ end reading head.now }
 {
     match reading {
-        Reading::Old => page_size(db),
-        Reading::File => usable_size(db),
+        Reading::Old => page_size(head),
+        Reading::File => usable_size(head),
     }
 }
 
-fn reserved_in(db: &[u8], reading: Reading) -> u32
-    requires { 100 ≤ length db.now }
-    ensures { result ≡ reserved_in reading db.now }
+fn reserved_in(head: &[u8; 100], reading: Reading) -> u32
+    ensures { result ≡ reserved_in reading head.now }
 {
     match reading {
         Reading::Old => 0,
-        Reading::File => field(db, 3),
+        Reading::File => field(head, 3),
     }
 }
 
-fn fields_in(db: &[u8], reading: Reading) -> Header
-    requires { 100 ≤ length db.now }
-    ensures { result ≡ fields_in reading db.now }
+fn fields_in(head: &[u8; 100], reading: Reading) -> Header
+    ensures { result ≡ fields_in reading head.now }
 {
     Header {
-        page_size: page_size(db),
-        write_version: field(db, 1),
-        read_version: field(db, 2),
-        reserved_space: reserved_in(db, reading),
-        max_payload_fraction: field(db, 4),
-        min_payload_fraction: field(db, 5),
-        leaf_payload_fraction: field(db, 6),
-        file_change_counter: field(db, 7),
-        db_size: field(db, 8),
-        first_freelist_page_no: field(db, 9),
-        total_freelist_pages: field(db, 10),
-        schema_cookie: field(db, 11),
-        schema_format_no: field(db, 12),
-        default_page_cache_size: field(db, 13),
-        no_largest_root_b_tree: field(db, 14),
-        db_text_encoding: field(db, 15),
-        user_version: field(db, 16),
-        incremental_vacuum_mode: field(db, 17),
-        application_id: field(db, 18),
-        version_valid_for_no: field(db, 19),
-        sqlite_version_number: field(db, 20),
+        page_size: page_size(head),
+        write_version: field(head, 1),
+        read_version: field(head, 2),
+        reserved_space: reserved_in(head, reading),
+        max_payload_fraction: field(head, 4),
+        min_payload_fraction: field(head, 5),
+        leaf_payload_fraction: field(head, 6),
+        file_change_counter: field(head, 7),
+        db_size: field(head, 8),
+        first_freelist_page_no: field(head, 9),
+        total_freelist_pages: field(head, 10),
+        schema_cookie: field(head, 11),
+        schema_format_no: field(head, 12),
+        default_page_cache_size: field(head, 13),
+        no_largest_root_b_tree: field(head, 14),
+        db_text_encoding: field(head, 15),
+        user_version: field(head, 16),
+        incremental_vacuum_mode: field(head, 17),
+        application_id: field(head, 18),
+        version_valid_for_no: field(head, 19),
+        sqlite_version_number: field(head, 20),
     }
 }

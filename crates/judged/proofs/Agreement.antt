@@ -6,11 +6,9 @@ use mathlib.Core.Bool.{Bool, true, false}
 use Rattle.laws.specs.Pick.{pick}
 use Rattle.laws.proofs.Never.{never}
 use Rattle.answers.specs.declared.Refusal.{Refusal}
-use Rattle.answers.specs.Answer.{Answer, refused, shown, ◌>>=◌}
+use Rattle.answers.specs.Answer.{◌>>=◌}
 use Rattle.kinds.specs.declared.Kind.TheVariants.{LeafTable}
 use Rattle.kinds.specs.Kind.{is_leaf_table}
-use Rattle.marks.specs.declared.Marking.{Marking}
-use Rattle.marks.specs.declared.Marking.TheVariants.{Clear, By}
 use Rattle.marks.specs.Marks.{mark_of, or_spilled}
 use Rattle.place.specs.declared.Page.{Page}
 use Rattle.place.specs.Place.{file_page}
@@ -27,50 +25,52 @@ use Rattle.marked.specs.Marked as marked
 use Rattle.judged.specs.Agreement.{AsWithNone, Judged, GuardedRefuses, EveryOpenRefuses, GuardedAgrees}
 use Rattle.spilled.proofs.Got.{spilled-told, lent-instead, lent-whole, lent-refused, lent-open, lent-unopened}
 use Rattle.marked.proofs.Guarded.{marked-instead, marked-open, marked-unopened, lent-guarded}
+use Rattle.answers.specs.declared.Mark.{Mark}
+use Rattle.std.specs.Prelude.{Err, None, Ok, Option, Result, Some}
 
 -- AN OPENED PAGE
 
 module _ (o : Open) (i room : ℕ) (db : List ℕ) where
-  spilled-judged : (x : Answer Refusal Spilled) → ((c : Spilled) → x ≡ shown c → c.page ≡ o.page)
-      → Judged o.page i (x >>= (λ c. shown (gathered c))) (refused (marked.marked_by i x))
-  spilled-judged (refused other) same = (λ refusal e. cc, λ f mark e m. never cc, λ l e m. never cc)
-  spilled-judged (shown c) same = (
+  spilled-judged : (x : Result Spilled Refusal) → ((c : Spilled) → x ≡ Ok c → c.page ≡ o.page)
+      → Judged o.page i (x >>= (λ c. Ok (gathered c))) (Err (marked.marked_by i x))
+  spilled-judged (Err other) same = (λ refusal e. cc, λ f mark e m. never cc, λ l e m. never cc)
+  spilled-judged (Ok c) same = (
     λ refusal e. never cc,
     λ f mark e m.
         let g : gathered c ≡ f = cc in
-        let h : By (or_spilled (mark_of c.cell)) ≡ By mark = rw (← g) at m in
+        let h : Some (or_spilled (mark_of c.cell)) ≡ Some mark = rw (← g) at m in
         let k : or_spilled (mark_of c.cell) ≡ mark = cc in
         rw (k, same c refl),
     λ l e m. never cc,
   )
 
   -- a cell on its page, by its mark
-  whole-judged : (l : Located) → l.opened ≡ o → (m : Marking) → mark_of l.cell ≡ m
-      → Judged o.page i (shown (whole l)) (instead (λ k. k) (refused (marked.marked_by i (spilled_in o i room db))) (guarded.unmarked i l m))
-  whole-judged l same Clear t = (
+  whole-judged : (l : Located) → l.opened ≡ o → (m : Option Mark) → mark_of l.cell ≡ m
+      → Judged o.page i (Ok (whole l)) (instead (λ k. k) (Err (marked.marked_by i (spilled_in o i room db))) (guarded.unmarked i l m))
+  whole-judged l same None t = (
     λ refusal e. never cc,
     λ f mark e m. let g : whole l ≡ f = cc in let h = sym t ∙ rw (← g) at m in never cc,
     λ k e m. cc,
   )
-  whole-judged l same (By n) t = (
+  whole-judged l same (Some n) t = (
     λ refusal e. never cc,
     λ f mark e m.
         let g : whole l ≡ f = cc in
-        let h : By n ≡ By mark = sym t ∙ rw (← g) at m in
+        let h : Some n ≡ Some mark = sym t ∙ rw (← g) at m in
         let k : n ≡ mark = cc in
         rw (k, same),
     λ k e m. let g : l ≡ k = cc in let h = sym t ∙ rw (← g) at m in never cc,
   )
 
-  by-located : (x : Answer Refusal Located) → located_in o i db ≡ x
-      → Judged o.page i (instead whole (spilled_in o i room db >>= (λ c. shown (gathered c))) x)
-      (instead (λ k. k) (refused (marked.marked_by i (spilled_in o i room db))) (guarded_by i x))
-  by-located (shown l) q = whole-judged l (held o i db q).opened (mark_of l.cell) refl
-  by-located (refused refusal) q = by (spills refusal)
+  by-located : (x : Result Located Refusal) → located_in o i db ≡ x
+      → Judged o.page i (instead whole (spilled_in o i room db >>= (λ c. Ok (gathered c))) x)
+      (instead (λ k. k) (Err (marked.marked_by i (spilled_in o i room db))) (guarded_by i x))
+  by-located (Ok l) q = whole-judged l (held o i db q).opened (mark_of l.cell) refl
+  by-located (Err refusal) q = by (spills refusal)
     where
-      by : (t : Bool) → Judged o.page i (pick t (spilled_in o i room db >>= (λ c. shown (gathered c))) (refused refusal))
-          (pick t (refused (marked.marked_by i (spilled_in o i room db))) (refused refusal))
-      by true = spilled-judged (spilled_in o i room db) (λ (c : Spilled) (e : spilled_in o i room db ≡ shown c). (spilled-told o i room db e).page)
+      by : (t : Bool) → Judged o.page i (pick t (spilled_in o i room db >>= (λ c. Ok (gathered c))) (Err refusal))
+          (pick t (Err (marked.marked_by i (spilled_in o i room db))) (Err refusal))
+      by true = spilled-judged (spilled_in o i room db) (λ (c : Spilled) (e : spilled_in o i room db ≡ Ok c). (spilled-told o i room db e).page)
       by false = (λ other e. cc, λ f mark e m. never cc, λ l e m. never cc)
 
   pub every-judged : o.kind ≡ LeafTable → Judged o.page i (lent_in o i room db) (marked.lent_in o i room db)
@@ -95,15 +95,15 @@ guarded-refuses number i room db s e k = go (open_from s db) refl
     leaf-opens : guarded.open_of number db ≡ open_from s db
     leaf-opens = site-leaf number db e (ap is_leaf_table k)
 
-    go : (x : Answer Refusal Open) → open_from s db ≡ x → Judged page i (lent_of page i room db) (marked.lent_of number i room db)
-    go (refused refusal) q =
+    go : (x : Result Open Refusal) → open_from s db ≡ x → Judged page i (lent_of page i room db) (marked.lent_of number i room db)
+    go (Err refusal) q =
         let a = lent-unopened page i room db (file-opened ∙ q) in
         let b = marked-unopened number i room db (leaf-opens ∙ q) in (
-          λ other d. let z = sym a ∙ d in let y : refusal ≡ other = cc in b ∙ ap refused y,
+          λ other d. let z = sym a ∙ d in let y : refusal ≡ other = cc in b ∙ ap Err y,
           λ f mark d m. let z = sym a ∙ d in never cc,
           λ l d m. let z = sym a ∙ d in never cc,
         )
-    go (shown o) q =
+    go (Ok o) q =
         let a = lent-open page i room db (file-opened ∙ q) in
         let b = marked-open number i room db (leaf-opens ∙ q) in
         let leaf = (leaf-opened number db (leaf-opens ∙ q)).1 in
@@ -112,16 +112,16 @@ guarded-refuses number i room db s e k = go (open_from s db) refl
 pub as-with-none : AsWithNone
 as-with-none page i room db = go (open_of page db) refl
   where
-    go : (x : Answer Refusal Open) → open_of page db ≡ x
-        → ((l : Located) → located_of page i db ≡ shown l → lent_of page i room db ≡ shown (whole l))
-        × ((refusal : Refusal) → located_of page i db ≡ refused refusal → spills refusal ≡ false → lent_of page i room db ≡ refused refusal)
-    go (refused other) q =
+    go : (x : Result Open Refusal) → open_of page db ≡ x
+        → ((l : Located) → located_of page i db ≡ Ok l → lent_of page i room db ≡ Ok (whole l))
+        × ((refusal : Refusal) → located_of page i db ≡ Err refusal → spills refusal ≡ false → lent_of page i room db ≡ Err refusal)
+    go (Err other) q =
         let a = located-unopened page i db q in
         let b = lent-unopened page i room db q in (
           λ l e. let z = sym a ∙ e in never cc,
-          λ refusal e t. let z = sym a ∙ e in let y : other ≡ refusal = cc in b ∙ ap refused y,
+          λ refusal e t. let z = sym a ∙ e in let y : other ≡ refusal = cc in b ∙ ap Err y,
         )
-    go (shown o) q =
+    go (Ok o) q =
         let a = sym (located-open page i db q) in
         let b = lent-open page i room db q in
         (λ l e. b ∙ lent-whole o i room db (a ∙ e), λ refusal e t. b ∙ lent-refused o i room db (a ∙ e) t)
@@ -129,10 +129,10 @@ as-with-none page i room db = go (open_of page db) refl
 pub guarded-agrees : GuardedAgrees
 guarded-agrees number i room db l e = go (guarded.open_of number db) refl
   where
-    go : (x : Answer Refusal Open) → guarded.open_of number db ≡ x
-        → (guarded.located_of number i db ≡ shown l) × (lent_of (file_page number) i room db ≡ shown (whole l))
-    go (refused refusal) q = let z = sym (marked-unopened number i room db q) ∙ e in never cc
-    go (shown o) q =
+    go : (x : Result Open Refusal) → guarded.open_of number db ≡ x
+        → (guarded.located_of number i db ≡ Ok l) × (lent_of (file_page number) i room db ≡ Ok (whole l))
+    go (Err refusal) q = let z = sym (marked-unopened number i room db q) ∙ e in never cc
+    go (Ok o) q =
         let is = lent-guarded i room db o (sym (marked-open number i room db q) ∙ e) in (
           guarded-open number i db q ∙ is,
           lent-open (file_page number) i room db (leaf-opened number db q).0 ∙ lent-whole o i room db (guarded-in o i db is).located,

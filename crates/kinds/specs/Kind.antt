@@ -5,18 +5,23 @@
 --    5 interior table     x                             x
 --   10 leaf index                    x                               x
 --   13 leaf table                    x                  x            x
-use Rattle.std.specs.Prelude.{ℕ, ◌-◌, ◌*◌, ◌/◌, Bool, true, false}
+use Rattle.std.specs.Prelude.{◌≡◌, ◌≢◌, ℕ, ◌-◌, ◌*◌, ◌/◌, Bool, true, false, Result, MatchResult}
 use Rattle.laws.specs.Pick.{pick}
 use Rattle.reading.specs.declared.Reading.{Reading}
 use Rattle.reading.specs.declared.Reading.TheVariants.{Old as old, File as file}
 use Rattle.kinds.specs.declared.Kind.{Kind}
 use Rattle.kinds.specs.declared.Kind.TheVariants.{InteriorIndex, InteriorTable, LeafIndex, LeafTable}
+use Rattle.kinds.specs.declared.NoKind.{NoKind}
 
 abbrev pub kind_byte : Kind → ℕ
 kind_byte InteriorIndex = 2
 kind_byte InteriorTable = 5
 kind_byte LeafIndex = 10
 kind_byte LeafTable = 13
+
+-- the kind whose byte this is, or an error at a byte of no kind
+abbrev pub Names : ℕ → Result Kind NoKind → Type 0
+Names byte r = MatchResult r (λ kind. kind_byte kind ≡ byte) (λ e. (kind : Kind) → kind_byte kind ≢ byte)
 
 abbrev pub interior : Kind → Bool
 interior InteriorIndex = true

@@ -14,11 +14,11 @@ use Rattle.varint.specs.Varint.{number}
 use Rattle.varint.proofs.Laws.{one_byte}
 use Rattle.record.specs.Types.{Types, done, column, types_of, walk}
 use Rattle.record.proofs.Laws.{types-at, types-end, walk-done, walk-on}
-use Rattle.marks.specs.declared.Marking.TheVariants.{Clear}
 use Rattle.marks.specs.Marks.{some, empty_value, lowest}
 use Rattle.marks.proofs.Same.{clear, clear-again}
-use Rattle.layout.specs.declared.Layout.TheVariants.{Fits}
 use Rattle.layout.specs.Lying.{Usual, Clean, LyingAs}
+use Rattle.layout.specs.Lying.{laid_out}
+use Rattle.std.specs.Prelude.{None}
 
 -- NO MARK
 
@@ -33,11 +33,11 @@ clean-on serial w rest u c = record { long = c.long; one = rw (ne_eqb serial 9 u
     empties (inr h) = rw (ne_eqb serial 12 (λ z. omega arith), ne_eqb serial 13 (λ z. omega arith)) c.empty
 
 -- where none is found
-pub clean-clear : (ts : Types) → lowest 1 1 1 ts ≡ Clear → Clean ts
+pub clean-clear : (ts : Types) → lowest 1 1 1 ts ≡ None → Clean ts
 clean-clear ts e = let u = clear e in record { long = u.types; one = u.ones; empty = u.empties }
 
 -- and the record then has none, where its other numbers are short
-pub clear-clean : (np nv : ℕ) (ts : Types) → np ≤ 5 → nv ≤ 5 → Clean ts → lowest np nv 1 ts ≡ Clear
+pub clear-clean : (np nv : ℕ) (ts : Types) → np ≤ 5 → nv ≤ 5 → Clean ts → lowest np nv 1 ts ≡ None
 clear-clean np nv ts h l c =
     clear-again (record { size = h; row = l; header = omega arith; narrow = refl; types = c.long; ones = c.one; empties = c.empty })
 
@@ -49,15 +49,6 @@ module _ (k : ℕ) (t : List ℕ) (at : ℕ) (h : 1 ≤ k) (l : at < length t) w
       let e = one_byte (drop at t) k h (rw length-drop (omega arith)) (rw (get_or-drop at t 0 0, add-zero) b) in
       types-at k t at (rw (get_or-drop at t 0 0, add-zero) at e)
 
--- the two bounds of usual types
-pub barred-low : (g : Bool) → pick g 9 10 ≤ 10
-barred-low true = omega arith
-barred-low false = omega arith
-
-pub least-high : (g : Bool) → 12 ≤ pick g 14 12
-least-high true = omega arith
-least-high false = omega arith
-
 -- the types up to `at` are gone along, of one byte each, and leave so many of the bytes for the values of the rest
 abbrev pub Gone : Bool → ℕ → List ℕ → ℕ → ℕ → Type 0
 Gone g room t at left =
@@ -65,9 +56,6 @@ Gone g room t at left =
     → (walk at left (types_of k (drop at t)) ≡ walk 0 room (types_of k t)) × (g ≡ true → Clean (types_of k (drop at t)) → Clean (types_of k t))
 
 module _ (g : Bool) (room : ℕ) (t : List ℕ) where
-  pub gone-first : Gone g room t 0 room
-  gone-first k h = (refl, λ e c. c)
-
   module _ (at left : ℕ) where
     pub gone-on : (w : ℕ) → at < length t → Usual (get_or t at 0) (pick g 9 10) (pick g 14 12) w → w ≤ left → Gone g room t at left
         → Gone g room t (at + 1) (left - w)
@@ -78,7 +66,7 @@ module _ (g : Bool) (room : ℕ) (t : List ℕ) where
           λ i c. now.1 i (rw e (clean-on (get_or t at 0) w _ (rw i at u) c)),
         )
 
-    pub gone-all : length t ≤ at → Gone g room t at left → LyingAs g room t (Fits at left)
+    pub gone-all : length t ≤ at → Gone g room t at left → LyingAs g room t (laid_out at left)
     gone-all m gone k h =
         let e = types-end k t at m in
         let now = gone k h in

@@ -11,21 +11,14 @@ ghost use Rattle.reading.specs.Reading.{limit};
 ghost use Rattle.record.specs.Types.{types_of};
 ghost use Rattle.layout.specs.Lying.{Wide, Lying, LyingAs};
 
-use marks::Marking;
 use reading::Reading;
-
-// How many bytes the value of a type takes.
-#[derive(Clone, Copy)]
-enum Width {
-    Bytes(u64),
-    Other,
-}
+use record::Laid;
 
 // How many columns there are, and how many bytes their values leave over.
 #[derive(Clone, Copy)]
-pub enum Layout {
-    Fits { columns: usize, left: u64 },
-    Other,
+pub struct Layout {
+    pub columns: usize,
+    pub left: u64,
 }
 
 // The type of fixed width that is not usual: in the guarded reading a stored 1, which is a mark.
@@ -62,74 +55,58 @@ fn short_width(serial: u64) -> u64
 }
 
 // How many bytes the value of a type of one byte takes.
-fn width_of(serial: u64, barred: u64, least: u64) -> Width
-    requires { (barred ≤ 10) × (12 ≤ least) }
+fn width_of(serial: u64, barred: u64, least: u64) -> Option<u64>
+    requires low { barred ≤ 10 }
+    requires high { 12 ≤ least }
     ensures { Wide serial barred least result }
 {
     if serial < 10 {
         if serial == barred {
-            return Width::Other;
+            return None;
         }
-        return Width::Bytes(short_width(serial));
+        return Some(short_width(serial));
     }
-    if serial < least {
-        return Width::Other;
+    if serial < least || 128 <= serial {
+        return None;
     }
-    if 128 <= serial {
-        return Width::Other;
-    }
-    Width::Bytes((serial - 12) / 2)
+    Some((serial - 12) / 2)
 }
 
 // How the values of the types `t` lie in `room` bytes, where each type is one byte.
-fn short_layout(t: &[u8], guarded: bool, room: u64) -> Layout
+fn short_layout(t: &[u8], guarded: bool, room: u64) -> Option<Layout>
     ensures { LyingAs guarded room t.now result }
 {
     let barred = barred_of(guarded);
     let least = least_of(guarded);
-    let mut at: usize = 0;
     let mut left = room;
-    while at < t.len() {
-        let width = width_of(t[at] as u64, barred, least);
-        let Width::Bytes(w) = width else {
-            return Layout::Other;
-        };
-        if left < w {
-            return Layout::Other;
-        }
-        left -= w;
-        at += 1;
+    for &byte in t {
+        left = left.checked_sub(width_of(u64::from(byte), barred, least)?)?;
     }
-    Layout::Fits { columns: at, left }
+    Some(Layout {
+        columns: t.len(),
+        left,
+    })
 }
 
 // The same, whatever the types are.
-fn long_layout(t: &[u8], reading: Reading, guarded: bool, room: u64) -> Layout
+fn long_layout(t: &[u8], reading: Reading, guarded: bool, room: u64) -> Option<Layout>
     ensures { Lying guarded room (types_of (limit reading) t.now) result }
 {
     let limit = reading::limit_of(reading);
-    if guarded {
-        let marking = marks::mark_of(t, limit, 1, 1, 1);
-        let Marking::Clear = marking else {
-            return Layout::Other;
-        };
+    if guarded && marks::mark_of(t, limit, 1, 1, 1).is_some() {
+        return None;
     }
-    let laid = record::lay(t, limit, room);
-    let record::Laid::Ends { columns, left } = laid else {
-        return Layout::Other;
+    let Laid::Ends { columns, left } = record::lay(t, limit, room) else {
+        return None;
     };
-    Layout::Fits { columns, left }
+    Some(Layout { columns, left })
 }
 
-pub fn layout_of(t: &[u8], reading: Reading, guarded: bool, room: u64) -> Layout
+pub fn layout_of(t: &[u8], reading: Reading, guarded: bool, room: u64) -> Option<Layout>
     ensures { Lying guarded room (types_of (limit reading) t.now) result }
 {
-    let layout = short_layout(t, guarded, room);
-    match layout {
-        Layout::Fits {
-            columns: _,
-            left: _,
-        } => layout,
-        Layout::Other => long_layout(t, reading, guarded, room),
+    match short_layout(t, guarded, room) {
+        None => long_layout(t, reading, guarded, room),
+        layout => layout,
     }
 }

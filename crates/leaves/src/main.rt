@@ -8,7 +8,7 @@
 
 mod shown;
 
-use print::{hex, number, text};
+use print::hex;
 use shown::{file_value, found, old_value};
 use std::io;
 use std::io::Write;
@@ -70,31 +70,29 @@ fn long<W: Write>(to: &mut W) -> io::Result<()> {
 }
 
 fn varint_row<W: Write>(to: &mut W, s: &[u8]) -> io::Result<()> {
-    text(to, b"varint ")?;
+    write!(to, "varint ")?;
     bytes(to, s)?;
-    text(to, b" old ")?;
+    write!(to, " old ")?;
     found(to, varint::read(s, OLD_LIMIT))?;
-    text(to, b" file ")?;
+    write!(to, " file ")?;
     found(to, varint::read(s, FILE_LIMIT))?;
-    text(to, b"\n")
+    writeln!(to)
 }
 
 fn value_row<W: Write>(to: &mut W, kind: u64, s: &[u8]) -> io::Result<()> {
-    text(to, b"type ")?;
-    number(to, kind)?;
-    text(to, b" ")?;
+    write!(to, "type {kind} ")?;
     bytes(to, s)?;
-    text(to, b" old ")?;
+    write!(to, " old ")?;
     old_value(to, values::old::value_of(kind, s, 0), s)?;
-    text(to, b" file ")?;
+    write!(to, " file ")?;
     file_value(to, values::file::value_of(kind, s, 0), s)?;
-    text(to, b"\n")
+    writeln!(to)
 }
 
 // The bytes of a row.
 fn bytes<W: Write>(to: &mut W, s: &[u8]) -> io::Result<()> {
-    if s.len() == 0 {
-        return text(to, b"-");
+    if s.is_empty() {
+        return write!(to, "-");
     }
     hex(to, s)
 }

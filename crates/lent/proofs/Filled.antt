@@ -1,6 +1,6 @@
 -- Laws of a table that is filled entry by entry, for the walks. A store to the first place behind the entries that are there
 -- lengthens them by one and takes one place off the rest (`filled_next`); the table's length stays (`filled-length`). So it is of a
--- table that is filled from a place on (`from-0`, `from_next`, `from-length`), and one that is filled from the start of a share on, with
+-- table that is filled from a place on (`from-0`, `from_next`), and one that is filled from the start of a share on, with
 -- no more entries than there is room, is one of which that share is filled (`from-share`).
 use mathlib.Core.Path.{◌≡◌, refl, sym, ◌∙◌, ap, subst}
 use Prim.Native.Nat.{ℕ, zero, suc, ◌+◌, ◌-◌, ◌<◌, ◌≤◌}
@@ -12,11 +12,13 @@ use lib.ListN.{length, set, take, drop, length-append, length-drop, take-append-
 use lib.Seq.{length-take-le, drop-drop}
 use Rattle.halves.specs.declared.Share.{Share}
 use Rattle.halves.specs.Halves.{start_of, room_of, lent_of, within}
-use Rattle.page.specs.declared.OpenAnswer.{OpenAnswer}
 use Rattle.table.specs.declared.Entry.{Entry}
 use Rattle.table.specs.Entry.{entry_for, entries, filled}
 use Rattle.table.proofs.Laws.{entries_none, entries_next, entries-length}
 use Rattle.lent.specs.Filling.{filled_from}
+use Rattle.answers.specs.declared.Refusal.{Refusal}
+use Rattle.page.specs.declared.Open.{Open}
+use Rattle.std.specs.Prelude.{Result}
 
 -- a store to the first place behind `front`
 stored-behind : (front : List Entry) (e : Entry) (rest : List Entry)
@@ -33,11 +35,11 @@ drop-next (suc n) (y ∷ ys) = drop-next n ys
 some_left : (n : ℕ) (ys : List Entry) → n < length ys → 0 < length (drop n ys)
 some_left n ys l = subst (λ (k : ℕ). 0 < k) (sym (length-drop n ys)) (omega (arith, l))
 
-pub filled-0 : (opening : OpenAnswer) (db : List ℕ) (ys : List Entry) → filled opening db 0 ys ≡ ys
+pub filled-0 : (opening : Result Open Refusal) (db : List ℕ) (ys : List Entry) → filled opening db 0 ys ≡ ys
 filled-0 opening db ys = ap (λ (zs : List Entry). zs ++ ys) (entries_none opening db)
 
 -- one more store to a table that is filled so far
-pub filled_next : (opening : OpenAnswer) (db : List ℕ) (n : ℕ) (ys : List Entry)
+pub filled_next : (opening : Result Open Refusal) (db : List ℕ) (n : ℕ) (ys : List Entry)
     → n < length ys → set (filled opening db n ys) n (entry_for opening db n) ≡ filled opening db (n + 1) ys
 filled_next opening db n ys l =
     ap (λ (k : ℕ). set (filled opening db n ys) k (entry_for opening db n)) (sym (entries-length opening db n))
@@ -46,7 +48,7 @@ filled_next opening db n ys l =
     ∙ ap (λ (zs : List Entry). zs ++ drop (suc n) ys) (sym (entries_next opening db n))
     ∙ ap (λ (k : ℕ). filled opening db k ys) (sym (add-one n))
 
-pub filled-length : (opening : OpenAnswer) (db : List ℕ) (n : ℕ) (ys : List Entry)
+pub filled-length : (opening : Result Open Refusal) (db : List ℕ) (n : ℕ) (ys : List Entry)
     → n ≤ length ys → length (filled opening db n ys) ≡ length ys
 filled-length opening db n ys l =
     length-append (entries opening db n) (drop n ys)
@@ -64,7 +66,7 @@ set-behind (x ∷ front) rest i e =
     ap (λ (k : ℕ). set (x ∷ front ++ rest) k e) (suc-add (length front) i)
     ∙ ap (λ (zs : List Entry). x ∷ zs) (set-behind front rest i e)
 
-module _ (from : ℕ) (opening : OpenAnswer) (db : List ℕ) where
+module _ (from : ℕ) (opening : Result Open Refusal) (db : List ℕ) where
   pub from-0 : (ys : List Entry) → filled_from from opening db 0 ys ≡ ys
   from-0 ys = ap (λ (zs : List Entry). take from ys ++ zs) (filled-0 opening db (drop from ys)) ∙ take-append-drop from ys
 
@@ -78,11 +80,6 @@ module _ (from : ℕ) (opening : OpenAnswer) (db : List ℕ) where
         ∙ set-behind (take from ys) (filled opening db n (drop from ys)) n (entry_for opening db n)
         ∙ ap (λ (zs : List Entry). take from ys ++ zs) (filled_next opening db n (drop from ys) (omega (arith, l, length-drop from ys)))
 
-    pub from-length : from + n ≤ length ys → length (filled_from from opening db n ys) ≡ length ys
-    from-length l =
-        length-append (take from ys) (filled opening db n (drop from ys))
-        ∙ omega (arith, l, front_length l, length-drop from ys, filled-length opening db n (drop from ys) (omega (arith, l, length-drop from ys)))
-
 -- a part of a table behind its first n places, and what is behind that part
 rest-whole : (n room : ℕ) (ys : List Entry) → n ≤ room → drop n (take room ys) ++ drop room ys ≡ drop n ys
 rest-whole zero room ys l = take-append-drop room ys
@@ -90,7 +87,7 @@ rest-whole (suc n) zero ys l = absurd (not-suc-le-zero l)
 rest-whole (suc n) (suc room) [] l = refl
 rest-whole (suc n) (suc room) (y ∷ ys) l = rest-whole n room ys (omega (arith, l))
 
-pub from-share : (share : Share) (opening : OpenAnswer) (db : List ℕ) (n : ℕ) (ys : List Entry)
+pub from-share : (share : Share) (opening : Result Open Refusal) (db : List ℕ) (n : ℕ) (ys : List Entry)
     → n ≤ room_of share (length ys) → filled_from (start_of share (length ys)) opening db n ys ≡ within share (filled opening db n) ys
 from-share share opening db n ys l =
     let start = start_of share (length ys) in

@@ -9,13 +9,14 @@ ghost use Rattle.std.specs.Prelude.{◌≡◌, ◌+◌, ◌≤◌, length};
 ghost use Rattle.lent.specs.Call.{answer_of, left_of};
 ghost use Rattle.lent.specs.Filling.{filled_from};
 
+use answers::Refusal;
 use halves::Share;
-use page::OpenAnswer;
+use page::Open;
 use place::Page;
-use table::{Entry, PageAnswer};
+use table::{Entry, Head};
 
 // The page call.
-pub fn page(db: &[u8], asked: Page, share: Share, table: &mut [Entry]) -> PageAnswer
+pub fn page(db: &[u8], asked: Page, share: Share, table: &mut [Entry]) -> Result<Head, Refusal>
     ensures { (result ≡ answer_of share asked db.now (length table.old))
         × (table.new ≡ left_of share asked db.now table.old) }
 {
@@ -30,14 +31,11 @@ pub fn page(db: &[u8], asked: Page, share: Share, table: &mut [Entry]) -> PageAn
 }
 
 // Stores the entries of the first n cells, each at its place, from place `from` on.
-fn fill(db: &[u8], opening: OpenAnswer, from: usize, n: usize, table: &mut [Entry])
+fn fill(db: &[u8], opening: Result<Open, Refusal>, from: usize, n: usize, table: &mut [Entry])
     requires { from + n ≤ length table.old }
     ensures { table.new ≡ filled_from from opening db.now n table.old }
 {
-    let mut i = 0;
-    while i < n {
-        let place = from + i;
-        table[place] = table::entry_by(db, opening, i);
-        i = i + 1;
+    for i in 0..n {
+        table[from + i] = table::entry_by(db, opening, i);
     }
 }

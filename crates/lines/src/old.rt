@@ -1,77 +1,45 @@
 // What the old reading shows of a cell: its integers have the Rust's widths, which are not printed.
+use answers::Refusal;
 use columns::Cursor;
-use print::out::{field_i64, refused, text};
-use row::FoundAnswer;
-use row_values::old::NextAnswer;
+use print::{refused, signed_field, text};
+use row::FoundCell;
 use std::io;
 use std::io::Write;
 use values::file;
-use values::narrow::{from_i8, from_i16, from_i32};
 use values::old::Value;
-use varint::Number;
 
 // The rest of a cell's line: the row number and the values, or the refusal.
-pub fn row<W: Write>(
-    to: &mut W,
-    db: &[u8],
-    out: &mut [u8],
-    at: usize,
-    answer: FoundAnswer,
-) -> io::Result<usize> {
+pub fn row<W: Write>(to: &mut W, db: &[u8], answer: Result<FoundCell, Refusal>) -> io::Result<()> {
     match answer {
-        FoundAnswer::Refused(refusal) => refused(to, out, at, answers::numbers_of(refusal)),
-        FoundAnswer::Shown(found) => {
-            let cell: cell::Cell = found.cell;
-            let cursor = found.cursor;
-            let row: Number = cell.row;
-            let n = field_i64(to, out, at, fields::signed_of(row.value))?;
-            let n = values(to, db, out, n, cursor, cell.columns)?;
-            text(to, out, n, b"\n")
+        Err(refusal) => refused(to, answers::numbers_of(refusal)),
+        Ok(found) => {
+            signed_field(to, fields::signed_of(found.cell.row.value))?;
+            values(to, db, found.cursor, found.cell.columns)?;
+            text(to, b"\n")
         }
     }
 }
 
 // At most as many values as are counted, so that the loop is seen to end.
-fn values<W: Write>(
-    to: &mut W,
-    db: &[u8],
-    out: &mut [u8],
-    at: usize,
-    first: Cursor,
-    count: usize,
-) -> io::Result<usize> {
-    let mut n = at;
+fn values<W: Write>(to: &mut W, db: &[u8], first: Cursor, count: usize) -> io::Result<()> {
     let mut here = first;
-    let mut left = count;
-    while 0 < left {
-        let reached = row_values::old::next(db, here);
-        let NextAnswer::Column { value: v, next } = reached else {
-            return Ok(n);
+    for _ in 0..count {
+        let Some(column) = row_values::old::next(db, here) else {
+            return Ok(());
         };
-        n = value(to, db, out, n, v)?;
-        here = next;
-        left -= 1;
+        texts::value(to, db, widened(column.value))?;
+        here = column.next;
     }
-    Ok(n)
+    Ok(())
 }
 
 // A value is written as one of the file reading, whatever width its type has.
-fn value<W: Write>(
-    to: &mut W,
-    db: &[u8],
-    out: &mut [u8],
-    at: usize,
-    v: Value,
-) -> io::Result<usize> {
-    texts::value(to, db, out, at, widened(v))
-}
-
 fn widened(v: Value) -> file::Value {
     match v {
         Value::Null => file::Value::Null,
-        Value::I8(z) => file::Value::Integer(from_i8(z)),
-        Value::I16(z) => file::Value::Integer(from_i16(z)),
-        Value::I32(z) => file::Value::Integer(from_i32(z)),
+        Value::I8(z) => file::Value::Integer(i64::from(z)),
+        Value::I16(z) => file::Value::Integer(i64::from(z)),
+        Value::I32(z) => file::Value::Integer(i64::from(z)),
         Value::I64(z) => file::Value::Integer(z),
         Value::F64 { number, bits } => file::Value::Real { number, bits },
         Value::Blob { at, len } => file::Value::Blob { at, len },

@@ -9,7 +9,6 @@ ghost use Rattle.links.specs.Links.{chain_of};
 ghost use Rattle.links.specs.Whole.{whole};
 
 use fields::be_u32;
-use place::Place;
 use shape::Shape;
 
 // Whether so many pages of a chain lie in the file, and it ends behind them.
@@ -17,14 +16,11 @@ pub fn is_whole(db: &[u8], shape: Shape, first: u32, links: u64) -> bool
     ensures { result ≡ whole (chain_of links shape first db.now) }
 {
     let mut number = first;
-    let mut left = links;
-    while 0 < left {
-        let place = place::place_of(db.len(), shape, place::file(number));
-        let Place::At { at, from: _ } = place else {
+    for _link in 0..links {
+        let Some(place) = place::place_of(db.len(), shape, place::file(number)) else {
             return false;
         };
-        number = be_u32(&db[at..]);
-        left -= 1;
+        number = be_u32(&db[place.at..]);
     }
     number == 0
 }

@@ -15,7 +15,7 @@ use Rattle.answers.specs.declared.Fault.TheVariants as fa
 use Rattle.answers.specs.declared.Reason.TheVariants as re
 use Rattle.answers.specs.declared.Refusal.{Refusal}
 use Rattle.answers.specs.declared.Refusal.TheVariants.{OfDatabase, OnPage, InCell}
-use Rattle.answers.specs.Answer.{Answer, refused, shown, ◌>>=◌}
+use Rattle.answers.specs.Answer.{◌>>=◌}
 use Rattle.varint.specs.declared.Number.{Number}
 use Rattle.record.specs.Types.{count}
 use Rattle.record.specs.Record.{values_at}
@@ -28,15 +28,12 @@ use Rattle.page.proofs.Steps.{open-page, open-file}
 use Rattle.cells.specs.Located.{Located, row_number, located_in, located_of}
 use Rattle.cells.specs.Numbered.{numbers_in}
 use Rattle.cells.proofs.Laws.{held, located-open}
-use Rattle.row.specs.declared.ColumnAnswer.{ColumnAnswer}
 use Rattle.row.specs.Found.{payload_from, cursor_in, found_by}
 use Rattle.row.specs.Column.{slot_then, column_by}
 use Rattle.row_values.specs.File.{shown_by}
 use Rattle.row.proofs.Placed.{placed-in, column-along}
 use Rattle.guarded.proofs.Guard.{leaf-opened, guarded-in, guarded-open}
 use Rattle.spills.specs.declared.Source.TheVariants.{Database, Buffer}
-use Rattle.spilled.specs.declared.ValueAnswer.{ValueAnswer}
-use Rattle.spilled.specs.declared.ValueAnswer.TheVariants as an
 use Rattle.spilled.specs.Lent.{Spilled, Lent, whole, gathered, lent_of, cursor_over}
 use Rattle.spills.specs.Spills.{spills_as, spills}
 use Rattle.spilled.specs.Values as file-values
@@ -59,52 +56,55 @@ use Rattle.gathered.specs.Rows.{lent_in, row_lent, table_lent}
 use Rattle.checked.proofs.Found.{in_place}
 use Rattle.gathered.proofs.Found.{spilled-whole}
 use Rattle.long_rows.specs.Agreement.{opened_by, value_by, cell_in, columns_of, RowShows, AsManyAsFit, NoneBehind, RefusedAlike, SameCell, CellsAgree}
+use Rattle.columns.specs.declared.Slot.{Slot}
+use Rattle.spilled.specs.declared.ValueIn.{ValueIn}
+use Rattle.std.specs.Prelude.{Err, Ok, Result}
 
 -- WHAT IS OPENED AND FOUND
 
 -- a page of either reading is one of the file
-page-is : (g : Bool) (number : ℕ) (db : List ℕ) {o : Open} → opened_by g number db ≡ shown o → o.page ≡ file_page number
+page-is : (g : Bool) (number : ℕ) (db : List ℕ) {o : Open} → opened_by g number db ≡ Ok o → o.page ≡ file_page number
 page-is true number db e = open-page (file_page number) db (leaf-opened number db e).0
 page-is false number db e = open-page (file_page number) db e
 
-reading-is : (g : Bool) (number : ℕ) (db : List ℕ) {o : Open} → opened_by g number db ≡ shown o → o.page.reading ≡ file
+reading-is : (g : Bool) (number : ℕ) (db : List ℕ) {o : Open} → opened_by g number db ≡ Ok o → o.page.reading ≡ file
 reading-is true number db e = open-file number db (leaf-opened number db e).0
 reading-is false number db e = open-file number db e
 
 -- what the guarded reading shows is a cell on its page
-by-marked : (P : Lent → Type 0) (o : Open) (i room : ℕ) (db : List ℕ) {f : Lent} → lent_in true o i room db ≡ shown f
-    → ((l : Located) → marked.lent_in o i room db ≡ shown l → P (whole l)) → P f
+by-marked : (P : Lent → Type 0) (o : Open) (i room : ℕ) (db : List ℕ) {f : Lent} → lent_in true o i room db ≡ Ok f
+    → ((l : Located) → marked.lent_in o i room db ≡ Ok l → P (whole l)) → P f
 by-marked P o i room db {f} e shows = go (marked.lent_in o i room db) refl e
   where
-    go : (x : Answer Refusal Located) → marked.lent_in o i room db ≡ x → (x >>= (λ l. shown (whole l))) ≡ shown f → P f
-    go (refused refusal) q d = never cc
-    go (shown l) q d = let w : whole l ≡ f = cc in rw (← w) (shows l q)
+    go : (x : Result Located Refusal) → marked.lent_in o i room db ≡ x → (x >>= (λ l. Ok (whole l))) ≡ Ok f → P f
+    go (Err refusal) q d = never cc
+    go (Ok l) q d = let w : whole l ≡ f = cc in rw (← w) (shows l q)
 
-marked-located : (o : Open) (i room : ℕ) (db : List ℕ) {l : Located} → marked.lent_in o i room db ≡ shown l → located_in o i db ≡ shown l
+marked-located : (o : Open) (i room : ℕ) (db : List ℕ) {l : Located} → marked.lent_in o i room db ≡ Ok l → located_in o i db ≡ Ok l
 marked-located o i room db q = (guarded-in o i db (lent-guarded i room db o q)).located
 
 -- the call on a column of it
 module _ (number i k : ℕ) (db b : List ℕ) {o : Open} where
-  file-value : opened_by false number db ≡ shown o → {x : Answer Refusal Lent} → lent_in false o i (length b) db ≡ x
+  file-value : opened_by false number db ≡ Ok o → {x : Result Lent Refusal} → lent_in false o i (length b) db ≡ x
       → value_by false number i k (length b) db ≡ file-values.value_by k db x
   file-value op e = value_found number i k (length b) db (lent-open (file_page number) i (length b) db op ∙ e)
 
-  guarded-value : opened_by true number db ≡ shown o → {x : Answer Refusal Located} → marked.lent_in o i (length b) db ≡ x
+  guarded-value : opened_by true number db ≡ Ok o → {x : Result Located Refusal} → marked.lent_in o i (length b) db ≡ x
       → value_by true number i k (length b) db ≡ from Database (shown_by db (column_by k x))
   guarded-value op e = marked-value number i k (length b) db (marked-open number i (length b) db op ∙ e)
 
 -- ITS VALUES
 
 -- what is said of a place
-abbrev Shows : ℕ → ℕ → List ℕ → List ℤ → Lent → ValueAnswer → Type 0
+abbrev Shows : ℕ → ℕ → List ℕ → List ℤ → Lent → Result ValueIn Refusal → Type 0
 Shows k places db table f value =
     ((lent_shown value).refused ≡ accepted)
-    × ((lent_shown value).source ≡ (row_lent places db (shown f)).source)
-    × (five_at k (table_lent places db (shown f) table) ≡ words_of (lent_shown value).value)
+    × ((lent_shown value).source ≡ (row_lent places db (Ok f)).source)
+    × (five_at k (table_lent places db (Ok f) table) ≡ words_of (lent_shown value).value)
 
 -- a cell on its page, in the file reading
-whole-shows : (o : Open) (i k places : ℕ) (db : List ℕ) (table : List ℤ) (l : Located) → located_in o i db ≡ shown l → o.page.reading ≡ file
-    → k < count l.cell.types → k < places → Shows k places db table (whole l) (from Database (shown_by db (column_by k (shown l))))
+whole-shows : (o : Open) (i k places : ℕ) (db : List ℕ) (table : List ℤ) (l : Located) → located_in o i db ≡ Ok l → o.page.reading ≡ file
+    → k < count l.cell.types → k < places → Shows k places db table (whole l) (from Database (shown_by db (column_by k (Ok l))))
 whole-shows o i k places db table l e r m room =
     let h = whole-found (cursor_in l) (count l.cell.types) db (in_place o i db e) k m in
     let q = sym (column-along k l db (placed-in o i db e)) ∙ ap (slot_then l.opened.page) h.is in
@@ -114,7 +114,7 @@ whole-shows o i k places db table l e r m room =
     rw (q, over-run (run_from places (cursor_in l) db) table) (refl, refl, s ∙ w)
 
 -- a spilled one
-spilled-shows : (o : Open) (i k places : ℕ) (db b : List ℕ) (table : List ℤ) (c : Spilled) → lent_in false o i (length b) db ≡ shown (gathered c)
+spilled-shows : (o : Open) (i k places : ℕ) (db b : List ℕ) (table : List ℤ) (c : Spilled) → lent_in false o i (length b) db ≡ Ok (gathered c)
     → k < count c.cell.types → k < places → Shows k places db table (gathered c) (from Buffer (shown_by c.payload (column_in k c)))
 spilled-shows o i k places db b table c e m room =
     let g = lent-got o i db b e in
@@ -141,28 +141,28 @@ as-many-as-fit false i places db b o (gathered c) e =
     let g = lent-got o i db b e in
     whole-count places (cursor_over c.cell) (count c.cell.types) c.payload (spilled-whole c g.held g.size)
 as-many-as-fit true i places db b o f e =
-    by-marked (λ (y : Lent). (row_lent places db (shown y)).row.count ≡ pick (ltb (columns_of y) places) (columns_of y) places) o i (length b) db e
+    by-marked (λ (y : Lent). (row_lent places db (Ok y)).row.count ≡ pick (ltb (columns_of y) places) (columns_of y) places) o i (length b) db e
     (λ l q. whole-count places (cursor_in l) (count l.cell.types) db (in_place o i db (marked-located o i (length b) db q)))
 
 -- NONE BEHIND
 
-abbrev None : ℕ → ValueAnswer → Type 0
-None number value = value ≡ an.Refused (OnPage number re.NoSuchColumn)
+abbrev Absent : ℕ → Result ValueIn Refusal → Type 0
+Absent number value = value ≡ Err (OnPage number re.NoSuchColumn)
 
-whole-none : (o : Open) (i k number : ℕ) (db : List ℕ) (l : Located) → located_in o i db ≡ shown l → o.page ≡ file_page number
-    → count l.cell.types ≤ k → None number (from Database (shown_by db (column_by k (shown l))))
+whole-none : (o : Open) (i k number : ℕ) (db : List ℕ) (l : Located) → located_in o i db ≡ Ok l → o.page ≡ file_page number
+    → count l.cell.types ≤ k → Absent number (from Database (shown_by db (column_by k (Ok l))))
 whole-none o i k number db l e p m =
     let s = found_none k (payload_from l + values_at l.opened.page.reading l.cell.header) (payload_from l + l.cell.payload) l.cell.types m in
     let n : l.opened.page ≡ file_page number = ap (λ (q : Open). q.page) (held o i db e).opened ∙ p in
-    ap (λ (z : ColumnAnswer). from Database (shown_by db z)) (ap (slot_then l.opened.page) s)
-    ∙ ap (λ (z : Page). an.Refused (OnPage z.number re.NoSuchColumn)) n
+    ap (λ (z : Result Slot Refusal). from Database (shown_by db z)) (ap (slot_then l.opened.page) s)
+    ∙ ap (λ (z : Page). Err (OnPage z.number re.NoSuchColumn)) n
 
-spilled-none : (o : Open) (i k number room : ℕ) (db : List ℕ) (c : Spilled) → lent_in false o i room db ≡ shown (gathered c) → o.page ≡ file_page number
-    → count c.cell.types ≤ k → None number (from Buffer (shown_by c.payload (column_in k c)))
+spilled-none : (o : Open) (i k number room : ℕ) (db : List ℕ) (c : Spilled) → lent_in false o i room db ≡ Ok (gathered c) → o.page ≡ file_page number
+    → count c.cell.types ≤ k → Absent number (from Buffer (shown_by c.payload (column_in k c)))
 spilled-none o i k number room db c e p m =
     let s = found_none k (values_at file c.cell.header) c.cell.payload c.cell.types m in
-    ap (λ (z : ColumnAnswer). from Buffer (shown_by c.payload z)) (ap (slot_then c.page) s)
-    ∙ ap (λ (z : Page). an.Refused (OnPage z.number re.NoSuchColumn)) ((lent-told o i room db e).page ∙ p)
+    ap (λ (z : Result Slot Refusal). from Buffer (shown_by c.payload z)) (ap (slot_then c.page) s)
+    ∙ ap (λ (z : Page). Err (OnPage z.number re.NoSuchColumn)) ((lent-told o i room db e).page ∙ p)
 
 pub none-behind : NoneBehind
 none-behind false number i places db b o (whole l) op e k m =
@@ -170,32 +170,32 @@ none-behind false number i places db b o (whole l) op e k m =
 none-behind false number i places db b o (gathered c) op e k m =
     file-value number i k db b op e ∙ spilled-none o i k number (length b) db c e (page-is false number db op) m
 none-behind true number i places db b o f op e k m =
-    by-marked (λ (y : Lent). (row_lent places db (shown y)).row.columns ≤ k → None number (value_by true number i k (length b) db)) o i (length b) db e
+    by-marked (λ (y : Lent). (row_lent places db (Ok y)).row.columns ≤ k → Absent number (value_by true number i k (length b) db)) o i (length b) db e
     (λ l q n. guarded-value number i k db b op q ∙ whole-none o i k number db l (marked-located o i (length b) db q) (page-is true number db op) n) m
 
 -- REFUSED
 
-refused-alike-by : (places : ℕ) (db : List ℕ) (refusal : Refusal) {value : ValueAnswer} → value ≡ an.Refused refusal
-    → (value ≡ an.Refused refusal) × ((row_lent places db (refused refusal)).row.refused ≡ (lent_shown value).refused)
+refused-alike-by : (places : ℕ) (db : List ℕ) (refusal : Refusal) {value : Result ValueIn Refusal} → value ≡ Err refusal
+    → (value ≡ Err refusal) × ((row_lent places db (Err refusal)).row.refused ≡ (lent_shown value).refused)
 refused-alike-by places db refusal e = (e, rw e)
 
 pub refused-alike : RefusedAlike
 refused-alike false number i places db b o refusal op e k = refused-alike-by places db refusal (file-value number i k db b op e)
 refused-alike true number i places db b o refusal op e k = go (marked.lent_in o i (length b) db) refl e
   where
-    go : (x : Answer Refusal Located) → marked.lent_in o i (length b) db ≡ x → (x >>= (λ l. shown (whole l))) ≡ refused refusal
-        → (value_by true number i k (length b) db ≡ an.Refused refusal)
-        × ((row_lent places db (refused refusal)).row.refused ≡ (lent_shown (value_by true number i k (length b) db)).refused)
-    go (shown l) q d = never cc
-    go (refused other) q d =
+    go : (x : Result Located Refusal) → marked.lent_in o i (length b) db ≡ x → (x >>= (λ l. Ok (whole l))) ≡ Err refusal
+        → (value_by true number i k (length b) db ≡ Err refusal)
+        × ((row_lent places db (Err refusal)).row.refused ≡ (lent_shown (value_by true number i k (length b) db)).refused)
+    go (Ok l) q d = never cc
+    go (Err other) q d =
         let w : other ≡ refusal = cc in
-        refused-alike-by places db refusal (guarded-value number i k db b op q ∙ ap an.Refused w)
+        refused-alike-by places db refusal (guarded-value number i k db b op q ∙ ap Err w)
 
 -- ITS CELL
 
 -- on its page
-whole-cell : (places : ℕ) (db : List ℕ) (x : Answer Refusal Located) (l : Located) (n : Answer Refusal Numbers) → x ≡ shown l
-    → SameCell (whole l) (row_lent places db (shown (whole l))) (cell_by (found_by x) (shortest_by x)) n
+whole-cell : (places : ℕ) (db : List ℕ) (x : Result Located Refusal) (l : Located) (n : Result Numbers Refusal) → x ≡ Ok l
+    → SameCell (whole l) (row_lent places db (Ok (whole l))) (cell_by (found_by x) (shortest_by x)) n
 whole-cell places db x l n e = rw e (refl, refl, refl)
 
 -- 18 is the number of a payload that spills
@@ -218,17 +218,17 @@ eighteen (InCell page cell fault) t = by fault t
     by fa.OutOfOrder d = never cc
 
 -- what is gathered was refused with it
-was-refused : (page : Page) (i room : ℕ) (db : List ℕ) {c : Spilled} → lent_of page i room db ≡ shown (gathered c)
+was-refused : (page : Page) (i room : ℕ) (db : List ℕ) {c : Spilled} → lent_of page i room db ≡ Ok (gathered c)
     → (cell_by (found_by (located_of page i db)) (shortest_by (located_of page i db))).refused.number ≡ 18
 was-refused page i room db {c} e = go (located_of page i db) refl
   where
-    by : (refusal : Refusal) → located_of page i db ≡ refused refusal → (t : Bool) → spills refusal ≡ t → (refused_by refusal).number ≡ 18
+    by : (refusal : Refusal) → located_of page i db ≡ Err refusal → (t : Bool) → spills refusal ≡ t → (refused_by refusal).number ≡ 18
     by refusal q true t = eighteen refusal t
     by refusal q false t = let d = sym e ∙ (as-with-none page i room db).1 refusal q t in never cc
 
-    go : (x : Answer Refusal Located) → located_of page i db ≡ x → (cell_by (found_by x) (shortest_by x)).refused.number ≡ 18
-    go (shown l) q = let d = sym e ∙ (as-with-none page i room db).0 l q in never cc
-    go (refused refusal) q = by refusal q (spills refusal) refl
+    go : (x : Result Located Refusal) → located_of page i db ≡ x → (cell_by (found_by x) (shortest_by x)).refused.number ≡ 18
+    go (Ok l) q = let d = sym e ∙ (as-with-none page i room db).0 l q in never cc
+    go (Err refusal) q = by refusal q (spills refusal) refl
 
 pub cells_agree : CellsAgree
 cells_agree false number i places db b o (whole l) op e =
@@ -242,5 +242,5 @@ cells_agree false number i places db b o (gathered c) op e = (
       ap (λ (z : Number). row_number z.value) (ap (λ (z : Numbers). z.key) (sym n) ∙ sym t.row),
 )
 cells_agree true number i places db b o f op e =
-    by-marked (λ (y : Lent). SameCell y (row_lent places db (shown y)) (cell_in true number i db) (numbers_in o i db)) o i (length b) db e
+    by-marked (λ (y : Lent). SameCell y (row_lent places db (Ok y)) (cell_in true number i db) (numbers_in o i db)) o i (length b) db e
     (λ l q. whole-cell places db _ l (numbers_in o i db) (guarded-open number i db op ∙ lent-guarded i (length b) db o q))

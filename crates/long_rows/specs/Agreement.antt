@@ -3,12 +3,11 @@
 -- has columns, or as the table has places. The call on a column that the row does not count is refused for that, and a row that
 -- is refused is refused as the call on each of its columns is. A row on its page has the number and the columns of its cell as
 -- the call has it that is lent no buffer; a spilled one, which that refuses with 18, the number that stands on its page.
-use Rattle.std.specs.Prelude.{ℕ, ◌*◌, ◌≤◌, ◌<◌, ◌≡◌, List, Bool, true, false, ltb, ℤ, length, take, drop}
+use Rattle.std.specs.Prelude.{ℕ, ◌*◌, ◌≤◌, ◌<◌, ◌≡◌, List, Bool, true, false, ltb, ℤ, length, take, drop, Err, Ok, Result}
 use Rattle.laws.specs.Pick.{pick}
 use Rattle.answers.specs.declared.Reason.TheVariants as re
 use Rattle.answers.specs.declared.Refusal.{Refusal}
 use Rattle.answers.specs.declared.Refusal.TheVariants.{OnPage}
-use Rattle.answers.specs.Answer.{Answer, refused, shown}
 use Rattle.record.specs.Types.{count}
 use Rattle.place.specs.Place.{file_page}
 use Rattle.page.specs.declared.Open.{Open}
@@ -18,8 +17,6 @@ use Rattle.cells.specs.Located.{Located, row_number, located_of}
 use Rattle.cells.specs.Numbered.{numbers_in}
 use Rattle.row.specs.Found.{found_by}
 use Rattle.guarded.specs.Guarded as guarded
-use Rattle.spilled.specs.declared.ValueAnswer.{ValueAnswer}
-use Rattle.spilled.specs.declared.ValueAnswer.TheVariants as an
 use Rattle.spilled.specs.Lent.{Lent, whole, gathered}
 use Rattle.spilled.specs.Values as file
 use Rattle.marked.specs.Marked as marked
@@ -31,21 +28,22 @@ use Rattle.turns.specs.Rows.{cell_by}
 use Rattle.sources.specs.Lent.{lent_shown}
 use Rattle.turns.specs.Words.{words_of}
 use Rattle.gathered.specs.Rows.{lent_in, row_lent, table_lent}
+use Rattle.spilled.specs.declared.ValueIn.{ValueIn}
 
 -- SINGLE CALLS, in the guarded reading or in the file reading
 
 -- the page
-abbrev pub opened_by : Bool → ℕ → List ℕ → Answer Refusal Open
+abbrev pub opened_by : Bool → ℕ → List ℕ → Result Open Refusal
 opened_by true number db = guarded.open_of number db
 opened_by false number db = page.open_of (file_page number) db
 
 -- column k of its cell i
-abbrev pub value_by : Bool → ℕ → ℕ → ℕ → ℕ → List ℕ → ValueAnswer
+abbrev pub value_by : Bool → ℕ → ℕ → ℕ → ℕ → List ℕ → Result ValueIn Refusal
 value_by true number i k room db = marked.value_of number i k room db
 value_by false number i k room db = file.value_of number i k room db
 
 -- the cell, by the call that is lent no buffer
-abbrev pub located_by : Bool → ℕ → ℕ → List ℕ → Answer Refusal Located
+abbrev pub located_by : Bool → ℕ → ℕ → List ℕ → Result Located Refusal
 located_by true number i db = guarded.located_of number i db
 located_by false number i db = located_of (file_page number) i db
 
@@ -60,39 +58,39 @@ columns_of (gathered c) = count c.cell.types
 
 abbrev pub RowShows : Type 0
 RowShows = (g : Bool) (number i places : ℕ) (db buffer : List ℕ) (table : List ℤ) (o : Open) (f : Lent)
-    → opened_by g number db ≡ shown o → lent_in g o i (length buffer) db ≡ shown f
+    → opened_by g number db ≡ Ok o → lent_in g o i (length buffer) db ≡ Ok f
     → (k : ℕ) → k < columns_of f → k < places
     → ((lent_shown (value_by g number i k (length buffer) db)).refused ≡ accepted)
-    × ((lent_shown (value_by g number i k (length buffer) db)).source ≡ (row_lent places db (shown f)).source)
-    × (take 5 (drop (5 * k) (table_lent places db (shown f) table)) ≡ words_of (lent_shown (value_by g number i k (length buffer) db)).value)
+    × ((lent_shown (value_by g number i k (length buffer) db)).source ≡ (row_lent places db (Ok f)).source)
+    × (take 5 (drop (5 * k) (table_lent places db (Ok f) table)) ≡ words_of (lent_shown (value_by g number i k (length buffer) db)).value)
 
 -- on every opened page, whoever made it up
 abbrev pub AsManyAsFit : Type 0
 AsManyAsFit = (g : Bool) (i places : ℕ) (db buffer : List ℕ) (o : Open) (f : Lent)
-    → lent_in g o i (length buffer) db ≡ shown f
-    → (row_lent places db (shown f)).row.count ≡ pick (ltb (columns_of f) places) (columns_of f) places
+    → lent_in g o i (length buffer) db ≡ Ok f
+    → (row_lent places db (Ok f)).row.count ≡ pick (ltb (columns_of f) places) (columns_of f) places
 
 -- ITS CELL
 
 -- behind the columns that a row counts there is none
 abbrev pub NoneBehind : Type 0
 NoneBehind = (g : Bool) (number i places : ℕ) (db buffer : List ℕ) (o : Open) (f : Lent)
-    → opened_by g number db ≡ shown o → lent_in g o i (length buffer) db ≡ shown f
-    → (k : ℕ) → (row_lent places db (shown f)).row.columns ≤ k
-    → value_by g number i k (length buffer) db ≡ an.Refused (OnPage number re.NoSuchColumn)
+    → opened_by g number db ≡ Ok o → lent_in g o i (length buffer) db ≡ Ok f
+    → (k : ℕ) → (row_lent places db (Ok f)).row.columns ≤ k
+    → value_by g number i k (length buffer) db ≡ Err (OnPage number re.NoSuchColumn)
 
 abbrev pub RefusedAlike : Type 0
 RefusedAlike = (g : Bool) (number i places : ℕ) (db buffer : List ℕ) (o : Open) (refusal : Refusal)
-    → opened_by g number db ≡ shown o → lent_in g o i (length buffer) db ≡ refused refusal
-    → (k : ℕ) → (value_by g number i k (length buffer) db ≡ an.Refused refusal)
-    × ((row_lent places db (refused refusal)).row.refused ≡ (lent_shown (value_by g number i k (length buffer) db)).refused)
+    → opened_by g number db ≡ Ok o → lent_in g o i (length buffer) db ≡ Err refusal
+    → (k : ℕ) → (value_by g number i k (length buffer) db ≡ Err refusal)
+    × ((row_lent places db (Err refusal)).row.refused ≡ (lent_shown (value_by g number i k (length buffer) db)).refused)
 
 -- a row on its page as the call on its cell has it; a spilled one, which that refuses, with the number that stands there
-abbrev pub SameCell : Lent → LentRow → Cell → Answer Refusal Numbers → Type 0
+abbrev pub SameCell : Lent → LentRow → Cell → Result Numbers Refusal → Type 0
 SameCell (whole l) r c n = (c.refused ≡ accepted) × (c.row ≡ r.row.number) × (c.columns ≡ r.row.columns)
-SameCell (gathered s) r c n = (c.refused.number ≡ 18) × ((m : Numbers) → n ≡ shown m → row_number m.key.value ≡ r.row.number)
+SameCell (gathered s) r c n = (c.refused.number ≡ 18) × ((m : Numbers) → n ≡ Ok m → row_number m.key.value ≡ r.row.number)
 
 abbrev pub CellsAgree : Type 0
 CellsAgree = (g : Bool) (number i places : ℕ) (db buffer : List ℕ) (o : Open) (f : Lent)
-    → opened_by g number db ≡ shown o → lent_in g o i (length buffer) db ≡ shown f
-    → SameCell f (row_lent places db (shown f)) (cell_in g number i db) (numbers_in o i db)
+    → opened_by g number db ≡ Ok o → lent_in g o i (length buffer) db ≡ Ok f
+    → SameCell f (row_lent places db (Ok f)) (cell_in g number i db) (numbers_in o i db)

@@ -10,96 +10,75 @@ ghost use Rattle.marked.specs.Marked.{marked_in, lent_in, buffer_in, lent_of, bu
 ghost use Rattle.marked.specs.Steps.{mark_over};
 
 use answers::{Fault, Mark, Refusal};
-use cell::Cell;
-use columns::Cursor;
-use page::{Open, OpenAnswer};
-use place::Page;
+use page::Open;
 use reading::Reading;
-use row::{FoundAnswer, FoundCell};
-use spilled::{LentAnswer, ValueAnswer};
+use row::FoundCell;
+use spilled::{FoundIn, ValueIn};
 use spills::Source;
-use varint::Number;
 
 // The lowest mark of a spilled cell whose payload is `payload`.
 fn mark_of(payload: &[u8], found: FoundCell) -> Mark
     ensures { result ≡ or_spilled (mark_over found payload.now) }
 {
-    let cell: Cell = found.cell;
-    let numbers = cell.numbers;
-    let size: Number = numbers.size;
-    let key: Number = numbers.key;
-    let header: Number = cell.header;
-    let cursor: Cursor = found.cursor;
-    let len = parts::less(cursor.stop as u64, cursor.at as u64) as usize;
-    let types = parts::part(payload, cursor.at, len);
+    let FoundCell { cell, cursor, .. } = found;
+    let len = cursor.stop.saturating_sub(cursor.at);
     let lowest = marks::mark_of(
-        types,
+        parts::part(payload, cursor.at, len),
         reading::limit_of(Reading::File),
-        size.length,
-        key.length,
-        header.length,
+        cell.numbers.size.length,
+        cell.numbers.key.length,
+        cell.header.length,
     );
     marks::or_spilled(lowest)
 }
 
 // Why a spilled cell is refused: as the file reading refuses it, or with its mark.
+#[tactic(auto, unfolding(crate::specs::Marked::marked_in))]
 fn marked_in(db: &[u8], opened: Open, i: usize, buffer: &mut [u8]) -> Refusal
-    ensures { (result ≡ marked_in opened i (length buffer.old) db.now)
-        × (buffer.new ≡ buffer_by (gathered_in opened i (length buffer.old) db.now) buffer.old) }
+    ensures answer { result ≡ marked_in opened i (length buffer.old) db.now }
+    ensures buffer { buffer.new ≡ buffer_by (gathered_in opened i (length buffer.old) db.now) buffer.old }
 {
-    let answer = spilled::spilled_in(db, opened, i, buffer);
-    match answer {
-        LentAnswer::Refused(refusal) => refusal,
-        LentAnswer::Shown { found, source: _ } => {
-            let page: Page = found.page;
-            let cell = found.cell;
-            let mark = mark_of(parts::part(buffer, 0, cell.payload), found);
-            Refusal::InCell {
-                page: page.number,
-                cell: i,
-                fault: Fault::Marked(mark),
-            }
+    match spilled::spilled_in(db, opened, i, buffer) {
+        Err(refusal) => refusal,
+        Ok(FoundIn { found, .. }) => {
+            let mark = mark_of(parts::part(buffer, 0, found.cell.payload), found);
+            found.page.refusal_in(i, Fault::Marked(mark))
         }
     }
 }
 
 // Cell `i` of an opened page.
-pub fn found_in(db: &[u8], opened: Open, i: usize, buffer: &mut [u8]) -> FoundAnswer
-    ensures { (result ≡ found_by (lent_in opened i (length buffer.old) db.now))
-        × (buffer.new ≡ buffer_in opened i db.now buffer.old) }
+#[tactic(auto, unfolding(crate::specs::Marked::lent_in, crate::specs::Marked::buffer_in))]
+pub fn found_in(db: &[u8], opened: Open, i: usize, buffer: &mut [u8]) -> Result<FoundCell, Refusal>
+    ensures answer { result ≡ found_by (lent_in opened i (length buffer.old) db.now) }
+    ensures buffer { buffer.new ≡ buffer_in opened i db.now buffer.old }
 {
-    let answer = guarded::found_in(db, opened, i);
-    match answer {
-        FoundAnswer::Shown(_) => answer,
-        FoundAnswer::Refused(refusal) => {
-            if spills::spills_by(refusal) {
-                return FoundAnswer::Refused(marked_in(db, opened, i, buffer));
-            }
-            answer
-        }
+    match guarded::found_in(db, opened, i) {
+        Err(refusal) if spills::spills_by(refusal) => Err(marked_in(db, opened, i, buffer)),
+        answer => answer,
     }
 }
 
 // Cell `i` of the table leaf of that number.
-pub fn found(db: &[u8], number: u32, i: usize, buffer: &mut [u8]) -> FoundAnswer
-    ensures { (result ≡ found_by (lent_of number i (length buffer.old) db.now))
-        × (buffer.new ≡ buffer_of number i db.now buffer.old) }
+#[tactic(auto, unfolding(crate::specs::Marked::lent_of, crate::specs::Marked::buffer_of))]
+pub fn found(db: &[u8], number: u32, i: usize, buffer: &mut [u8]) -> Result<FoundCell, Refusal>
+    ensures answer { result ≡ found_by (lent_of number i (length buffer.old) db.now) }
+    ensures buffer { buffer.new ≡ buffer_of number i db.now buffer.old }
 {
-    let answer = guarded::open_page(db, number);
-    match answer {
-        OpenAnswer::Refused(refusal) => FoundAnswer::Refused(refusal),
-        OpenAnswer::Shown(opened) => found_in(db, opened, i, buffer),
-    }
+    found_in(db, guarded::open_page(db, number)?, i, buffer)
 }
 
 // Column `k` of the cell.
-pub fn value(db: &[u8], number: u32, i: usize, k: usize, buffer: &mut [u8]) -> ValueAnswer
-    ensures { (result ≡ value_of number i k (length buffer.old) db.now)
-        × (buffer.new ≡ buffer_of number i db.now buffer.old) }
+pub fn value(
+    db: &[u8],
+    number: u32,
+    i: usize,
+    k: usize,
+    buffer: &mut [u8],
+) -> Result<ValueIn, Refusal>
+    ensures answer { result ≡ value_of number i k (length buffer.old) db.now }
+    ensures buffer { buffer.new ≡ buffer_of number i db.now buffer.old }
 {
-    let answer = found(db, number, i, buffer);
-    spilled::shown_from(
-        row_values::file::shown(db, row::column_of(db, answer, k)),
-        Source::Database,
-    )
+    let column = row::column_of(db, found(db, number, i, buffer), k);
+    spilled::shown_from(row_values::file::shown(db, column), Source::Database)
 }

@@ -5,19 +5,19 @@ use mathlib.Core.List.{List, ◌++◌, append_assoc}
 use native.Mathlib.Omega.{arith}
 use lib.ListN.{length, take, drop, length-drop, take-append-drop}
 use lib.Seq.{drop-append-le}
-use Rattle.varint.specs.declared.Varint.TheVariants as vi
 use Rattle.varint.specs.Varint.{varint_of}
 use Rattle.varint.proofs.Laws.{length-bounds, bytes-behind, left_behind}
 use Rattle.reading.specs.declared.Reading.TheVariants.{File as file}
 use Rattle.cell.specs.declared.Numbers.{Numbers}
 use Rattle.cell.specs.Cell.{Cell}
 use Rattle.cell.proofs.Leaf.{Leaf}
+use Rattle.std.specs.Prelude.{Ok}
 
 module _ (u : ℕ) (s z : List ℕ) {c : Cell} (o : Leaf file u s c) where
-  pub size-on : varint_of 9 (s ++ z) ≡ vi.Value c.numbers.size
+  pub size-on : varint_of 9 (s ++ z) ≡ Ok c.numbers.size
   size-on = bytes-behind s 9 z o.size
 
-  pub key-on : varint_of 9 (drop c.numbers.size.length (s ++ z)) ≡ vi.Value c.numbers.key
+  pub key-on : varint_of 9 (drop c.numbers.size.length (s ++ z)) ≡ Ok c.numbers.key
   key-on = rw (left_behind s 9 z o.size) (bytes-behind (drop c.numbers.size.length s) 9 z o.key)
 
   numbers-within : c.numbers.length ≤ length s

@@ -10,13 +10,10 @@ use lib.ListN.{length, take, drop, length-append}
 use lib.Seq.{take-add, take-append-le, take-length}
 use borrow.Author.Tests.{eqb-true, le-ltb}
 use Rattle.laws.proofs.Never.{never}
-use Rattle.varint.specs.declared.Varint.{Varint}
-use Rattle.varint.specs.declared.Varint.TheVariants as vi
 use Rattle.varint.specs.Varint.{varint_of}
 use Rattle.varint.proofs.Laws.{length-bounds, same_number, bytes-behind, left_behind}
 use Rattle.reading.specs.declared.Reading.TheVariants.{Old as old, File as file}
 use Rattle.varint.specs.declared.Number.{Number}
-use Rattle.answers.specs.Answer.{shown}
 use Rattle.record.specs.Record.{Record}
 use Rattle.record.specs.Types.{Types, done, broken, column, types_of, count, nth_type}
 use Rattle.record.proofs.Laws.{types-next, types-broken, nth-next}
@@ -29,6 +26,8 @@ use Rattle.cell.proofs.Leaf.{Leaf, leaf}
 use Rattle.marks.specs.Marks.{some, long_type, stored_one, empty_value, long_varint}
 use Rattle.laws.proofs.Bools.{neither}
 use Rattle.marks.proofs.Behind.{size-on, key-on, payload, beyond, payload-on}
+use Rattle.std.specs.Prelude.{Err, Ok, Result}
+use Rattle.varint.specs.declared.Cause.{Cause}
 
 -- the types whose values the readings show otherwise
 pub data Otherwise : ℕ → Type 0 where
@@ -88,12 +87,12 @@ types-apart z ended e = never cc
 types-apart z (stopped l i) e = never cc
 types-apart z (further {s} {t} {rest} i r) e = go (varint_of 5 (s ++ z)) refl (types-apart z r)
   where
-    go : (v : Varint) → varint_of 5 (s ++ z) ≡ v → (odd rest ≡ true → Apart (types_of 5 (drop t.length s ++ z)) rest)
+    go : (v : Result Number Cause) → varint_of 5 (s ++ z) ≡ v → (odd rest ≡ true → Apart (types_of 5 (drop t.length s ++ z)) rest)
         → Apart (types_of 5 (s ++ z)) (column t rest)
-    go (vi.Unfinished c) j next =
+    go (Err c) j next =
         let w = length-bounds s 9 i in
         rw (types-broken 5 (s ++ z) (simp length-append (omega arith)) j) (fewer (omega arith))
-    go (vi.Value x) j next =
+    go (Ok x) j next =
         let q = same_number (s ++ z) 5 9 (omega arith) j (bytes-behind s 9 z i) in
         let w = length-bounds (s ++ z) 5 (rw q at j) in
         let k = rw (q, left_behind s 9 z i) at (types-next 5 (s ++ z) j) in
@@ -127,9 +126,9 @@ old-record u s q {c} o i =
     let e : length l ≡ c.payload = let f = o.payload in cc in
     accepted old q (rw (← e, take-length l, i) at o.recorded)
 
-pub apart : (u u' : ℕ) (s z : List ℕ) {c d : Cell} → cell_of file LeafTable u s ≡ shown c
+pub apart : (u u' : ℕ) (s z : List ℕ) {c d : Cell} → cell_of file LeafTable u s ≡ Ok c
     → (long_varint c.numbers.size.length c.numbers.key.length c.header.length c.types || (some stored_one c.types || some empty_value c.types)) ≡ true
-    → cell_of old LeafTable u' (s ++ z) ≡ shown d → Apart d.types c.types
+    → cell_of old LeafTable u' (s ++ z) ≡ Ok d → Apart d.types c.types
 apart u u' s z {c} {d} e m f =
     let n = c.numbers in
     let o = leaf file u s e in

@@ -12,9 +12,6 @@ use borrow.Author.Tests.{le-ltb, ltb-false, eqb-true, not-false}
 use Rattle.laws.specs.Pick.{pick}
 use Rattle.laws.proofs.Never.{never}
 use Rattle.answers.specs.declared.Mark.TheVariants as ma
-use Rattle.answers.specs.Answer.{shown}
-use Rattle.varint.specs.declared.Varint.{Varint}
-use Rattle.varint.specs.declared.Varint.TheVariants as vi
 use Rattle.varint.specs.declared.Cause.{Cause}
 use Rattle.varint.specs.Varint.{varint_of}
 use Rattle.varint.proofs.Laws.{longer-limit, shorter-limit, bytes-behind, left_behind}
@@ -29,10 +26,11 @@ use Rattle.kinds.specs.declared.Kind.TheVariants.{LeafTable}
 use Rattle.cell.specs.Cell.{Cell, cell_of}
 use Rattle.cell.proofs.Recorded.{record_with}
 use Rattle.cell.proofs.Leaf.{leaf, leaf-again}
-use Rattle.marks.specs.declared.Marking.TheVariants.{Clear, By}
 use Rattle.marks.specs.Marks.{some, long, long_type, stored_one, empty_value, long_varint, lowest, mark_of}
 use Rattle.laws.proofs.Bools.{neither}
 use Rattle.marks.proofs.Behind.{size-on, key-on, payload, beyond, payload-on}
+use Rattle.std.specs.Prelude.{Err, None, Ok, Result, Some}
+use Rattle.varint.specs.declared.Number.{Number}
 
 -- NO MARK: none of the four stands
 
@@ -45,12 +43,12 @@ pub record Unmarked (np nv own : ℕ) (ts : Types) : Type 0 where
   pub ones : some stored_one ts ≡ false
   pub empties : some empty_value ts ≡ false
 
-pub clear : {np nv own : ℕ} {ts : Types} → lowest np nv own ts ≡ Clear → Unmarked np nv own ts
+pub clear : {np nv own : ℕ} {ts : Types} → lowest np nv own ts ≡ None → Unmarked np nv own ts
 unfolding lowest
 clear {np} {nv} {own} {ts} e = go (long_varint np nv own ts) (not (eqb own 1)) (some stored_one ts) (some empty_value ts) refl refl refl refl e
   where
     go : (a b c d : Bool) → long_varint np nv own ts ≡ a → not (eqb own 1) ≡ b → some stored_one ts ≡ c → some empty_value ts ≡ d
-        → pick a (By ma.LongVarint) (pick b (By ma.WideHeaderSize) (pick c (By ma.StoredOne) (pick d (By ma.EmptyValue) Clear))) ≡ Clear
+        → pick a (Some ma.LongVarint) (pick b (Some ma.WideHeaderSize) (pick c (Some ma.StoredOne) (pick d (Some ma.EmptyValue) None))) ≡ None
         → Unmarked np nv own ts
     go true b c d i j k l f = never cc
     go false true c d i j k l f = never cc
@@ -70,19 +68,19 @@ clear {np} {nv} {own} {ts} e = go (long_varint np nv own ts) (not (eqb own 1)) (
           empties = l;
         }
 
-pub clear-again : {np nv own : ℕ} {ts : Types} → Unmarked np nv own ts → lowest np nv own ts ≡ Clear
+pub clear-again : {np nv own : ℕ} {ts : Types} → Unmarked np nv own ts → lowest np nv own ts ≡ None
 unfolding lowest
 clear-again {np} {nv} {own} {ts} u =
     rw (le-ltb 5 np u.size, le-ltb 5 nv u.row, u.narrow, u.types, u.ones, u.empties)
 
 -- TYPES, where none takes more than five bytes
 
-still-broken : (s : List ℕ) {c : Cause} → 0 < length s → varint_of 9 s ≡ vi.Unfinished c → types_of 5 s ≡ broken
+still-broken : (s : List ℕ) {c : Cause} → 0 < length s → varint_of 9 s ≡ Err c → types_of 5 s ≡ broken
 still-broken s l e = go (varint_of 5 s) refl
   where
-    go : (v : Varint) → varint_of 5 s ≡ v → types_of 5 s ≡ broken
-    go (vi.Unfinished d) i = types-broken 5 s l i
-    go (vi.Value t) i = let f = longer-limit s 5 9 (omega arith) i in never cc
+    go : (v : Result Number Cause) → varint_of 5 s ≡ v → types_of 5 s ≡ broken
+    go (Err d) i = types-broken 5 s l i
+    go (Ok t) i = let f = longer-limit s 5 9 (omega arith) i in never cc
 
 same-types : {s : List ℕ} {ts : Types} → Spelt 9 s ts → some long_type ts ≡ false → types_of 5 s ≡ ts
 same-types ended e = types-nil 5
@@ -119,8 +117,8 @@ same-record q z c i a e =
 abbrev pub with_payload : ℕ → Cell → Cell
 with_payload n c = record { numbers = c.numbers; payload = n; header = c.header; types = c.types; row = c.row }
 
-pub same-cell : (u u' : ℕ) (s z : List ℕ) {c : Cell} → cell_of file LeafTable u s ≡ shown c → mark_of c ≡ Clear
-    → cell_of old LeafTable u' (s ++ z) ≡ shown (with_payload (length (drop c.numbers.length (s ++ z))) c)
+pub same-cell : (u u' : ℕ) (s z : List ℕ) {c : Cell} → cell_of file LeafTable u s ≡ Ok c → mark_of c ≡ None
+    → cell_of old LeafTable u' (s ++ z) ≡ Ok (with_payload (length (drop c.numbers.length (s ++ z))) c)
 same-cell u u' s z {c} e m =
     let o = leaf file u s e in
     let k = clear m in

@@ -2,16 +2,11 @@
 use Prim.Native.Nat.{ℕ}
 use mathlib.Core.Path.{◌≡◌, refl, sym, ap, ◌∙◌}
 use mathlib.Core.Bool.{Bool, true, false, ◌||◌}
-use mathlib.Core.Logic.{◌⊎◌, inl, inr}
 use Rattle.varint.specs.declared.Number.{Number}
 use Rattle.record.specs.Types.{Types, column}
-use Rattle.marks.specs.declared.Marking.{Marking}
 use Rattle.marks.specs.Marks.{some, long_type, stored_one, empty_value, long_varint, lowest_by, lowest}
-
--- two ways to one answer: the first test held, or it did not and the second told
-pub either : {A B : Type 0} (x y r : Bool) → ◌⊎◌ (A × (r ≡ x)) (B × (r ≡ y)) → (A → x ≡ true) → (B → x ≡ false) → r ≡ (x || y)
-either x y r (inl p) held failed = p.1 ∙ rw (held p.0)
-either x y r (inr p) held failed = p.1 ∙ rw (failed p.0)
+use Rattle.answers.specs.declared.Mark.{Mark}
+use Rattle.std.specs.Prelude.{Option}
 
 pub or_assoc : (a b c : Bool) → ((a || b) || c) ≡ (a || (b || c))
 or_assoc true b c = refl
@@ -28,7 +23,7 @@ last f true whole ts e h = h
 last f false whole ts e h = sym e ∙ h
 
 -- where no type is left, the lowest of what was found is that of the record
-pub lowest-found : (np nv own : ℕ) (ts rest : Types) (is_long is_one is_empty : Bool) {r : Marking} → r ≡ lowest_by is_long own is_one is_empty
+pub lowest-found : (np nv own : ℕ) (ts rest : Types) (is_long is_one is_empty : Bool) {r : Option Mark} → r ≡ lowest_by is_long own is_one is_empty
     → ((f : Number → Bool) → some f rest ≡ false) → (is_long || some long_type rest) ≡ long_varint np nv own ts
     → (is_one || some stored_one rest) ≡ some stored_one ts → (is_empty || some empty_value rest) ≡ some empty_value ts → r ≡ lowest np nv own ts
 unfolding lowest

@@ -9,64 +9,49 @@ ghost use Rattle.record.specs.Types.{types_of};
 ghost use Rattle.marks.specs.Marks.{lowest_by, lowest, or_spilled};
 
 use answers::Mark;
-use varint::Varint;
-
-#[derive(Clone, Copy)]
-pub enum Marking {
-    Clear,
-    // The lowest mark.
-    By(Mark),
-}
 
 // The lowest mark of a record whose types are `types`, read in at most `limit` bytes each, and whose payload size, row
 // number and header size took so many bytes.
-pub fn mark_of(types: &[u8], limit: usize, size: usize, row: usize, header: usize) -> Marking
+pub fn mark_of(types: &[u8], limit: usize, size: usize, row: usize, header: usize) -> Option<Mark>
     ensures { result ≡ lowest size row header (types_of limit types.now) }
 {
-    let mut at: usize = 0;
     let mut long = 5 < size || 5 < row || 5 < header;
     let mut one = false;
     let mut empty = false;
-    while at < types.len() {
-        let v = varint::read(&types[at..], limit);
-        let Varint::Value(serial) = v else {
-            return lowest_of(long, header, one, empty);
+    let mut rest = types;
+    while !rest.is_empty() {
+        let Ok(serial) = varint::read(rest, limit) else {
+            break;
         };
-        let value = serial.value;
-        let length = serial.length;
-        long = long || 5 < length;
-        one = one || value == 9;
-        empty = empty || value == 12 || value == 13;
-        at += length;
+        long |= 5 < serial.length;
+        one |= serial.value == 9;
+        let no_bytes = serial.value == 12 || serial.value == 13;
+        empty |= no_bytes;
+        rest = &rest[serial.length..];
     }
     lowest_of(long, header, one, empty)
 }
 
 // The lowest of the marks that were found.
-fn lowest_of(long: bool, header: usize, one: bool, empty: bool) -> Marking
+fn lowest_of(long: bool, header: usize, one: bool, empty: bool) -> Option<Mark>
     ensures { result ≡ lowest_by long header one empty }
 {
     if long {
-        return Marking::By(Mark::LongVarint);
+        Some(Mark::LongVarint)
+    } else if header != 1 {
+        Some(Mark::WideHeaderSize)
+    } else if one {
+        Some(Mark::StoredOne)
+    } else if empty {
+        Some(Mark::EmptyValue)
+    } else {
+        None
     }
-    if header != 1 {
-        return Marking::By(Mark::WideHeaderSize);
-    }
-    if one {
-        return Marking::By(Mark::StoredOne);
-    }
-    if empty {
-        return Marking::By(Mark::EmptyValue);
-    }
-    Marking::Clear
 }
 
 // The lowest mark of a record whose payload spills: the fifth, where it has none of the four.
-pub fn or_spilled(lowest: Marking) -> Mark
+pub fn or_spilled(lowest: Option<Mark>) -> Mark
     ensures { result ≡ or_spilled lowest }
 {
-    match lowest {
-        Marking::Clear => Mark::Spilled,
-        Marking::By(mark) => mark,
-    }
+    lowest.unwrap_or(Mark::Spilled)
 }

@@ -4,8 +4,7 @@
 
 use answers::Refusal;
 use print::input::read_full;
-use print::{number, text};
-use spilled::ValueAnswer;
+use spilled::ValueIn;
 use spills::Source;
 use std::io;
 use std::io::Write;
@@ -16,11 +15,11 @@ fn main(rt: HostRuntime) -> io::Result<()> {
     let n = read_full(&mut rt.stdin(), &mut buffer)?;
     let db = &buffer[..n];
     let mut to = rt.stdout();
-    text(&mut to, b"a note on its page\n")?;
+    writeln!(&mut to, "a note on its page")?;
     show(&mut to, db, 0)?;
-    text(&mut to, b"a note that spills\n")?;
+    writeln!(&mut to, "a note that spills")?;
     show(&mut to, db, 1)?;
-    text(&mut to, b"a note whose chain is damaged\n")?;
+    writeln!(&mut to, "a note whose chain is damaged")?;
     show(&mut to, db, 2)
 }
 
@@ -28,10 +27,10 @@ fn main(rt: HostRuntime) -> io::Result<()> {
 fn show<W: Write>(to: &mut W, db: &[u8], i: usize) -> io::Result<()> {
     let mut gather = [0u8; 65_536];
     let answer = spilled::value(db, 2, i, 2, &mut gather);
-    text(to, b"  file ")?;
+    write!(to, "  file ")?;
     shown(to, db, &gather, answer)?;
     let answer = marked::value(db, 2, i, 2, &mut gather);
-    text(to, b"  guarded ")?;
+    write!(to, "  guarded ")?;
     shown(to, db, &gather, answer)
 }
 
@@ -39,36 +38,33 @@ fn shown<'a, W: Write>(
     to: &mut W,
     db: &'a [u8],
     gather: &'a [u8],
-    answer: ValueAnswer,
+    answer: Result<ValueIn, Refusal>,
 ) -> io::Result<()> {
     match answer {
-        ValueAnswer::Refused(refusal) => refused(to, refusal),
-        ValueAnswer::Shown { value, source } => {
-            if let Value::Text { at, len } = value {
-                from(to, source)?;
-                text(to, spills::bytes_of(db, gather, source, at, len))?;
-                text(to, b"\n")
-            } else {
-                text(to, b"no text\n")
-            }
+        Err(refusal) => refused(to, refusal),
+        Ok(ValueIn { value, source }) => {
+            let Value::Text { at, len } = value else {
+                return writeln!(to, "no text");
+            };
+            write!(to, "in the {}: ", from(source))?;
+            to.write_all(spills::bytes_of(db, gather, source, at, len))?;
+            writeln!(to)
         }
     }
 }
 
-fn from<W: Write>(to: &mut W, source: Source) -> io::Result<()> {
+fn from(source: Source) -> &'static str {
     match source {
-        Source::Database => text(to, b"in the database: "),
-        Source::Buffer => text(to, b"in the buffer: "),
+        Source::Database => "database",
+        Source::Buffer => "buffer",
     }
 }
 
 fn refused<W: Write>(to: &mut W, refusal: Refusal) -> io::Result<()> {
     let numbers = answers::numbers_of(refusal);
-    text(to, b"refused ")?;
-    number(to, numbers.number as u64)?;
-    text(to, b", page ")?;
-    number(to, numbers.page as u64)?;
-    text(to, b", mark ")?;
-    number(to, numbers.mark as u64)?;
-    text(to, b"\n")
+    writeln!(
+        to,
+        "refused {}, page {}, mark {}",
+        numbers.number, numbers.page, numbers.mark
+    )
 }

@@ -5,87 +5,61 @@
 #![tactic(auto)]
 
 ghost use Rattle.std.specs.Prelude.{◌≡◌};
-ghost use Rattle.answers.specs.declared.Fault.TheVariants.{OutOfOrder};
-ghost use Rattle.answers.specs.declared.Refusal.TheVariants.{InCell};
 ghost use Rattle.order.specs.Order.{fits_in, placed_in, placed_key, placed_down};
 
 use answers::{Fault, Refusal};
-use cells::NumberedAnswer;
-use keys::KeyAnswer;
 use page::Open;
-use place::Page;
-use varint::Number;
-
-// What every number that follows must exceed.
-#[derive(Clone, Copy)]
-pub enum Low {
-    Any,
-    Above(i64),
-}
 
 // What an interior cell leads to.
 #[derive(Clone, Copy)]
-pub enum Down {
-    To { child: u32, key: i64 },
-    Refused(Refusal),
+pub struct Down {
+    pub child: u32,
+    pub key: i64,
 }
 
 // Whether a number is above all that came before it and at most `most`.
-fn fits(low: Low, most: i64, number: i64) -> bool
+fn fits(low: Option<i64>, most: i64, number: i64) -> bool
     ensures { result ≡ fits_in low most number }
 {
-    if most < number {
-        return false;
-    }
-    match low {
-        Low::Any => true,
-        Low::Above(last) => last < number,
-    }
-}
-
-fn out_of_order(page: Page, cell: usize) -> Refusal
-    ensures { result ≡ InCell page.number cell OutOfOrder }
-{
-    Refusal::InCell {
-        page: page.number,
-        cell,
-        fault: Fault::OutOfOrder,
-    }
+    number <= most && low.is_none_or(|last| last < number)
 }
 
 // The row number of cell `i` of a leaf, in its place.
-pub fn key_placed(db: &[u8], opened: Open, i: usize, low: Low, most: i64) -> KeyAnswer
+#[tactic(auto, unfolding(crate::specs::Order::placed_in))]
+pub fn key_placed(
+    db: &[u8],
+    opened: Open,
+    i: usize,
+    low: Option<i64>,
+    most: i64,
+) -> Result<i64, Refusal>
     ensures { result ≡ placed_key (placed_in opened db.now most i low) }
 {
-    let answer = keys::key_in(db, opened, i);
-    match answer {
-        KeyAnswer::Refused(refusal) => KeyAnswer::Refused(refusal),
-        KeyAnswer::Shown(number) => {
-            if fits(low, most, number) {
-                return KeyAnswer::Shown(number);
-            }
-            KeyAnswer::Refused(out_of_order(opened.page, i))
-        }
+    let number = keys::key_in(db, opened, i)?;
+    if !fits(low, most, number) {
+        return Err(opened.page.refusal_in(i, Fault::OutOfOrder));
     }
+    Ok(number)
 }
 
 // The child and the key of cell `i` of an interior page, the key in its place.
-pub fn child_placed(db: &[u8], opened: Open, i: usize, low: Low, most: i64) -> Down
+#[tactic(auto, unfolding(crate::specs::Order::placed_in))]
+pub fn child_placed(
+    db: &[u8],
+    opened: Open,
+    i: usize,
+    low: Option<i64>,
+    most: i64,
+) -> Result<Down, Refusal>
     ensures { result ≡ placed_down (placed_in opened db.now most i low) }
 {
-    let answer = cells::numbers_in(db, opened, i);
-    match answer {
-        NumberedAnswer::Refused(refusal) => Down::Refused(refusal),
-        NumberedAnswer::Shown(numbers) => {
-            let key: Number = numbers.key;
-            let number = fields::signed_of(key.value);
-            if fits(low, most, number) {
-                return Down::To {
-                    child: numbers.child,
-                    key: number,
-                };
-            }
-            Down::Refused(out_of_order(opened.page, i))
-        }
+    let numbers = cells::numbers_in(db, opened, i)?;
+    let key = fields::signed_of(numbers.key.value);
+    if !fits(low, most, key) {
+        return Err(opened.page.refusal_in(i, Fault::OutOfOrder));
     }
+    Ok(Down {
+        child: numbers.child,
+        key,
+    })
 }

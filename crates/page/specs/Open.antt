@@ -1,19 +1,17 @@
 -- A page that is opened: behind its place and kind its cells, and where its pointers end. The check is the row 11 of
 -- docs/READINGS.md, behind those of the site.
-use Rattle.std.specs.Prelude.{ℕ, ◌+◌, List, Bool, false, ltb, leb, drop}
+use Rattle.std.specs.Prelude.{ℕ, ◌+◌, List, Bool, false, ltb, leb, drop, Ok, Result}
 use Rattle.laws.specs.Pick.{pick}
 use Rattle.fields.specs.Fields.{unsigned}
 use Rattle.answers.specs.declared.Reason.TheVariants as re
 use Rattle.answers.specs.declared.Refusal.{Refusal}
-use Rattle.answers.specs.Answer.{Answer, refused, shown, ◌>>=◌}
+use Rattle.answers.specs.Answer.{◌>>=◌}
 use Rattle.kinds.specs.Kind.{interior}
 use Rattle.place.specs.declared.Page.{Page}
 use Rattle.place.specs.Place.{page_at}
 use Rattle.site.specs.declared.Site.{Site}
 use Rattle.site.specs.Site.{on_page, site_of}
 use Rattle.page.specs.declared.Open.{Open}
-use Rattle.page.specs.declared.OpenAnswer.{OpenAnswer}
-use Rattle.page.specs.declared.OpenAnswer.TheVariants as oa
 use Rattle.page.specs.Head.{cells_at, pointers_end}
 
 -- how many cells a page says that it has
@@ -24,12 +22,12 @@ abbrev pub open_with : Site → ℕ → Open
 open_with s cells =
     record { page = s.page; at = s.at; size = s.size; end = s.end; from = s.from; kind = s.kind; cells = cells }
 
-unfoldable pub open_from : Site → List ℕ → Answer Refusal Open
+unfoldable pub open_from : Site → List ℕ → Result Open Refusal
 open_from s db =
     pick (ltb s.end (pointers_end s.from s.kind (cells_of s db))) (on_page s.page re.PointersPassEnd)
-    (shown (open_with s (cells_of s db)))
+    (Ok (open_with s (cells_of s db)))
 
-unfoldable pub open_of : Page → List ℕ → Answer Refusal Open
+unfoldable pub open_of : Page → List ℕ → Result Open Refusal
 open_of page db = do
   site ← site_of page db
   open_from site db
@@ -37,11 +35,6 @@ open_of page db = do
 -- the last child of an interior page, from the bytes of its header on
 abbrev pub rightmost_of : Open → List ℕ → ℕ
 rightmost_of o header = pick (interior o.kind) (unsigned 4 (drop 8 header)) 0
-
--- as the code has it
-abbrev pub open_answer : Answer Refusal Open → OpenAnswer
-open_answer (refused refusal) = oa.Refused refusal
-open_answer (shown o) = oa.Shown o
 
 -- A PAGE THAT IS OPEN ALREADY
 

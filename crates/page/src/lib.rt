@@ -5,16 +5,14 @@
 #![tactic(auto)]
 
 ghost use Rattle.std.specs.Prelude.{◌≡◌};
-ghost use Rattle.answers.specs.declared.Reason.TheVariants as re;
-ghost use Rattle.site.specs.Site.{on_page};
 ghost use Rattle.page.specs.Head.{head_size};
-ghost use Rattle.page.specs.Open.{open_from, open_of, open_answer, rightmost_of, lies_in};
+ghost use Rattle.page.specs.Open.{open_from, open_of, rightmost_of, lies_in};
 
 use answers::{Reason, Refusal};
 use fields::{be_u16, be_u32};
 use kinds::Kind;
 use place::Page;
-use site::{Site, SiteAnswer};
+use site::Site;
 
 // A page whose head and pointers are there too.
 #[derive(Clone, Copy)]
@@ -28,109 +26,71 @@ pub struct Open {
     pub cells: usize,
 }
 
-#[derive(Clone, Copy)]
-pub enum OpenAnswer {
-    Shown(Open),
-    Refused(Refusal),
-}
-
 // How many bytes stand before the pointers.
 pub fn head_size(kind: Kind) -> usize
     ensures { result ≡ head_size kind }
 {
     match kind {
-        Kind::InteriorIndex => 12,
-        Kind::InteriorTable => 12,
-        Kind::LeafIndex => 8,
-        Kind::LeafTable => 8,
+        Kind::InteriorIndex | Kind::InteriorTable => 12,
+        Kind::LeafIndex | Kind::LeafTable => 8,
     }
-}
-
-fn not_opened(page: Page) -> OpenAnswer
-    ensures { result ≡ open_answer (on_page page re.PointersPassEnd) }
-{
-    OpenAnswer::Refused(Refusal::OnPage {
-        page: page.number,
-        reason: Reason::PointersPassEnd,
-    })
 }
 
 // Whether head and pointers end in time. By differences: any site may be handed over.
-pub fn open_site(db: &[u8], site: Site) -> OpenAnswer
-    ensures { result ≡ open_answer (open_from site db.now) }
+#[tactic(auto, unfolding(crate::specs::Open::open_from))]
+pub fn open_site(db: &[u8], site: Site) -> Result<Open, Refusal>
+    ensures { result ≡ open_from site db.now }
 {
-    let page = site.page;
-    let kind = site.kind;
     let end = site.end as usize;
-    let head = head_size(kind);
-    if end < site.from {
-        return not_opened(page);
-    }
-    if end - site.from < head {
-        return not_opened(page);
+    let head = head_size(site.kind);
+    if end < site.from || end - site.from < head {
+        return Err(site.page.refusal(Reason::PointersPassEnd));
     }
     let bytes = place::bytes_of(db, site.at, site.size);
     let cells = be_u16(parts::behind(bytes, site.from + 3)) as usize;
     if (end - site.from - head) / 2 < cells {
-        return not_opened(page);
+        return Err(site.page.refusal(Reason::PointersPassEnd));
     }
-    OpenAnswer::Shown(Open {
-        page,
+    Ok(Open {
+        page: site.page,
         at: site.at,
         size: site.size,
         end: site.end,
         from: site.from,
-        kind,
+        kind: site.kind,
         cells,
     })
 }
 
 // The checks of the header, then those of the page.
-pub fn open_page(db: &[u8], page: Page) -> OpenAnswer
-    ensures { result ≡ open_answer (open_of page db.now) }
+#[tactic(auto, unfolding(crate::specs::Open::open_of))]
+pub fn open_page(db: &[u8], page: Page) -> Result<Open, Refusal>
+    ensures { result ≡ open_of page db.now }
 {
-    let answer = site::site_of(db, page);
-    match answer {
-        SiteAnswer::Refused(refusal) => OpenAnswer::Refused(refusal),
-        SiteAnswer::Shown(site) => open_site(db, site),
-    }
+    open_site(db, site::site_of(db, page)?)
 }
 
 // The last child of an interior page, from the bytes of its header on.
 pub fn rightmost_of(header: &[u8], opened: Open) -> u32
     ensures { result ≡ rightmost_of opened header.now }
 {
-    let kind = opened.kind;
-    if kind.is_interior() {
-        return be_u32(parts::behind(header, 8));
+    if opened.kind.is_interior() {
+        be_u32(parts::behind(header, 8))
+    } else {
+        0
     }
-    0
 }
 
 // Whether an opened page lies in so many bytes, and its pointers before its end. By differences: any numbers may be given.
 pub fn lies(bytes: usize, opened: Open) -> bool
     ensures { result ≡ lies_in bytes opened }
 {
-    let kind = opened.kind;
     let end = opened.end as usize;
-    if bytes < opened.size {
-        return false;
-    }
-    if bytes - opened.size < opened.at {
-        return false;
-    }
-    if opened.size < end {
-        return false;
-    }
-    if end < opened.from {
-        return false;
-    }
-    let head = head_size(kind);
-    if end - opened.from < head {
-        return false;
-    }
-    if (end - opened.from - head) / 2 < opened.cells {
-        return false;
-    }
-    true
+    let head = head_size(opened.kind);
+    opened.size <= bytes
+        && opened.at <= bytes - opened.size
+        && end <= opened.size
+        && opened.from <= end
+        && head <= end - opened.from
+        && opened.cells <= (end - opened.from - head) / 2
 }

@@ -11,17 +11,16 @@ use Rattle.answers.specs.declared.Fault.TheVariants as fa
 use Rattle.answers.specs.declared.Refusal.{Refusal}
 use Rattle.answers.specs.declared.Refusal.TheVariants.{OfDatabase, OnPage, InCell}
 use Rattle.answers.specs.Numbers.{flaw_number, reason_number, fault_row, numbers_of}
-use Rattle.answers.specs.Answer.{Answer, refused, shown}
 use Rattle.kinds.specs.declared.Kind.{Kind}
 use Rattle.kinds.specs.declared.Kind.TheVariants.{InteriorIndex, InteriorTable, LeafIndex, LeafTable}
 use Rattle.kinds.specs.Kind.{kind_byte}
 use Rattle.page.specs.declared.Open.{Open}
-use Rattle.page.specs.Open.{open_answer}
 use Rattle.turns.specs.declared.types.Opened.{Opened}
 use Rattle.turns.specs.declared.types.Opening.{Opening}
 use Rattle.turns.specs.Refusals.{accepted}
 use Rattle.asked.specs.Asked.{reading_by, kind_by}
 use Rattle.pages.specs.Pages.{opened_of, opening_by, open_by}
+use Rattle.std.specs.Prelude.{Err, Ok, Result}
 
 -- BY ITS NUMBERS AND BACK
 
@@ -76,16 +75,16 @@ refused-not (OnPage page reason) e = reason-not reason e
 refused-not (InCell page cell fault) e = fault-not page cell fault e
 
 -- the page behind an opening is the one that is handed back, in its reading
-pub record Behind (n : ℕ) (answer : Answer Refusal Open) (o : Opened) : Type 0 where
-  pub is : answer ≡ shown (open_by o)
+pub record Behind (n : ℕ) (answer : Result Open Refusal) (o : Opened) : Type 0 where
+  pub is : answer ≡ Ok (open_by o)
   pub reading : o.reading ≡ n
 
-pub page-behind : (n : ℕ) (answer : Answer Refusal Open) (o : Opened) → ((p : Open) → answer ≡ shown p → p.page.reading ≡ reading_by n)
-    → opening_by n (open_answer answer) ≡ record { refused = accepted; opened = o } → Behind n answer o
-page-behind n (refused refusal) o reads e = absurd (refused-not refusal (ap (λ (x : Opening). x.refused.number) e))
-page-behind n (shown p) o reads e =
+pub page-behind : (n : ℕ) (answer : Result Open Refusal) (o : Opened) → ((p : Open) → answer ≡ Ok p → p.page.reading ≡ reading_by n)
+    → opening_by n answer ≡ record { refused = accepted; opened = o } → Behind n answer o
+page-behind n (Err refusal) o reads e = absurd (refused-not refusal (ap (λ (x : Opening). x.refused.number) e))
+page-behind n (Ok p) o reads e =
     let turned : opened_of n p ≡ o = ap (λ (x : Opening). x.opened) e in
     record {
-      is = ap shown (sym (open-back n p (sym (reads p refl)))) ∙ ap (λ (x : Opened). shown (open_by x)) turned;
+      is = ap Ok (sym (open-back n p (sym (reads p refl)))) ∙ ap (λ (x : Opened). Ok (open_by x)) turned;
       reading = ap (λ (x : Opened). x.reading) (sym turned);
     }

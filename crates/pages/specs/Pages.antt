@@ -1,28 +1,21 @@
 -- The database and its pages as C has them: the header, the count of pages, the head of a page, and a page that is opened.
-use Rattle.std.specs.Prelude.{ℕ}
+use Rattle.std.specs.Prelude.{ℕ, Err, Ok, Result}
 use Rattle.answers.specs.declared.Refusal.TheVariants.{OfDatabase}
 use Rattle.header.specs.declared.Header as hd
-use Rattle.header.specs.declared.HeaderAnswer.{HeaderAnswer}
-use Rattle.header.specs.declared.HeaderAnswer.TheVariants as ha
 use Rattle.kinds.specs.Kind.{kind_byte}
 use Rattle.asked.specs.Asked.{page_by, kind_by}
-use Rattle.shape.specs.declared.ShapeAnswer.{ShapeAnswer}
-use Rattle.shape.specs.declared.ShapeAnswer.TheVariants as sh
 use Rattle.page.specs.declared.Open.{Open}
-use Rattle.page.specs.declared.OpenAnswer.{OpenAnswer}
-use Rattle.page.specs.declared.OpenAnswer.TheVariants as op
 use Rattle.table.specs.declared.Head.{Head}
-use Rattle.table.specs.declared.PageAnswer.{PageAnswer}
-use Rattle.table.specs.declared.PageAnswer.TheVariants as pa
 use Rattle.turns.specs.declared.types.Header.{Header}
 use Rattle.turns.specs.declared.types.Pages.{Pages}
 use Rattle.turns.specs.declared.types.Listed.{Listed}
-use Rattle.walk.specs.declared.CountAnswer.{CountAnswer}
-use Rattle.walk.specs.declared.CountAnswer.TheVariants as co
 use Rattle.turns.specs.declared.types.PageHead.{PageHead}
 use Rattle.turns.specs.declared.types.Opened.{Opened}
 use Rattle.turns.specs.declared.types.Opening.{Opening}
 use Rattle.turns.specs.Refusals.{accepted, refused_by}
+use Rattle.answers.specs.declared.Flaw.{Flaw}
+use Rattle.answers.specs.declared.Refusal.{Refusal}
+use Rattle.shape.specs.declared.Shape.{Shape}
 
 -- THE HEADER, AND HOW MANY PAGES
 
@@ -52,18 +45,18 @@ no_fields =
       sqlite_version_number = 0;
     }
 
-abbrev pub header_by : HeaderAnswer → Header
-header_by (ha.Refused flaw) = record { refused = refused_by (OfDatabase flaw); fields = no_fields }
-header_by (ha.Shown fields) = record { refused = accepted; fields = fields }
+abbrev pub header_by : Result hd.Header Flaw → Header
+header_by (Err flaw) = record { refused = refused_by (OfDatabase flaw); fields = no_fields }
+header_by (Ok fields) = record { refused = accepted; fields = fields }
 
-abbrev pub pages_by : ShapeAnswer → Pages
-pages_by (sh.Refused flaw) = record { refused = refused_by (OfDatabase flaw); count = 0; present = 0 }
-pages_by (sh.Shown shape) = record { refused = accepted; count = shape.pages; present = shape.present }
+abbrev pub pages_by : Result Shape Flaw → Pages
+pages_by (Err flaw) = record { refused = refused_by (OfDatabase flaw); count = 0; present = 0 }
+pages_by (Ok shape) = record { refused = accepted; count = shape.pages; present = shape.present }
 
 -- the rows of a table
-abbrev pub listed_by : CountAnswer → Listed
-listed_by (co.Refused refusal) = record { refused = refused_by refusal; count = 0 }
-listed_by (co.Shown n) = record { refused = accepted; count = n }
+abbrev pub listed_by : Result ℕ Refusal → Listed
+listed_by (Err refusal) = record { refused = refused_by refusal; count = 0 }
+listed_by (Ok n) = record { refused = accepted; count = n }
 
 -- THE HEAD OF A PAGE
 
@@ -71,9 +64,9 @@ abbrev pub no_head : Head
 no_head =
     record { kind = 0; first_freeblock = 0; cells = 0; content_start = 0; fragmented = 0; rightmost = 0 }
 
-abbrev pub head_by : PageAnswer → PageHead
-head_by (pa.Refused refusal) = record { refused = refused_by refusal; head = no_head }
-head_by (pa.Shown head) = record { refused = accepted; head = head }
+abbrev pub head_by : Result Head Refusal → PageHead
+head_by (Err refusal) = record { refused = refused_by refusal; head = no_head }
+head_by (Ok head) = record { refused = accepted; head = head }
 
 -- OPENED PAGES
 
@@ -94,9 +87,9 @@ opened_of reading o =
       cells = o.cells;
     }
 
-abbrev pub opening_by : ℕ → OpenAnswer → Opening
-opening_by reading (op.Refused refusal) = record { refused = refused_by refusal; opened = unopened }
-opening_by reading (op.Shown o) = record { refused = accepted; opened = opened_of reading o }
+abbrev pub opening_by : ℕ → Result Open Refusal → Opening
+opening_by reading (Err refusal) = record { refused = refused_by refusal; opened = unopened }
+opening_by reading (Ok o) = record { refused = accepted; opened = opened_of reading o }
 
 -- and back
 abbrev pub open_by : Opened → Open

@@ -5,16 +5,14 @@
 ghost use Rattle.std.specs.Prelude.{◌≡◌};
 ghost use Rattle.pages.specs.Pages.{no_fields, header_by, pages_by, listed_by, no_head, head_by, unopened, opened_of, opening_by, open_by};
 
-use answers::Refusal;
-use header::HeaderAnswer;
-use page::{Open, OpenAnswer};
+use answers::{Flaw, Refusal};
+use page::Open;
 use place::Page;
 use reading::Reading;
-use shape::ShapeAnswer;
-use table::{Head, PageAnswer};
+use shape::Shape;
+use table::Head;
 use turns::refusals::{no_refusal, refused_by};
 use turns::types::{Header, Listed, Opened, Opening, PageHead, Pages};
-use walk::CountAnswer;
 
 // THE HEADER, AND HOW MANY PAGES
 
@@ -46,31 +44,31 @@ fn no_fields() -> header::Header
     }
 }
 
-pub fn header_by(answer: HeaderAnswer) -> Header
+pub fn header_by(answer: Result<header::Header, Flaw>) -> Header
     ensures { result ≡ header_by answer }
 {
     match answer {
-        HeaderAnswer::Refused(flaw) => Header {
-            refused: refused_by(Refusal::OfDatabase(flaw)),
+        Err(flaw) => Header {
+            refused: refused_by(Refusal::from(flaw)),
             fields: no_fields(),
         },
-        HeaderAnswer::Shown(fields) => Header {
+        Ok(fields) => Header {
             refused: no_refusal(),
             fields,
         },
     }
 }
 
-pub fn pages_by(answer: ShapeAnswer) -> Pages
+pub fn pages_by(answer: Result<Shape, Flaw>) -> Pages
     ensures { result ≡ pages_by answer }
 {
     match answer {
-        ShapeAnswer::Refused(flaw) => Pages {
-            refused: refused_by(Refusal::OfDatabase(flaw)),
+        Err(flaw) => Pages {
+            refused: refused_by(Refusal::from(flaw)),
             count: 0,
             present: 0,
         },
-        ShapeAnswer::Shown(shape) => Pages {
+        Ok(shape) => Pages {
             refused: no_refusal(),
             count: shape.pages,
             present: shape.present,
@@ -78,15 +76,15 @@ pub fn pages_by(answer: ShapeAnswer) -> Pages
     }
 }
 
-pub fn listed_by(answer: CountAnswer) -> Listed
+pub fn listed_by(answer: Result<usize, Refusal>) -> Listed
     ensures { result ≡ listed_by answer }
 {
     match answer {
-        CountAnswer::Refused(refusal) => Listed {
+        Err(refusal) => Listed {
             refused: refused_by(refusal),
             count: 0,
         },
-        CountAnswer::Shown(count) => Listed {
+        Ok(count) => Listed {
             refused: no_refusal(),
             count,
         },
@@ -108,15 +106,15 @@ fn no_head() -> Head
     }
 }
 
-pub fn head_by(answer: PageAnswer) -> PageHead
+pub fn head_by(answer: Result<Head, Refusal>) -> PageHead
     ensures { result ≡ head_by answer }
 {
     match answer {
-        PageAnswer::Refused(refusal) => PageHead {
+        Err(refusal) => PageHead {
             refused: refused_by(refusal),
             head: no_head(),
         },
-        PageAnswer::Shown(head) => PageHead {
+        Ok(head) => PageHead {
             refused: no_refusal(),
             head,
         },
@@ -144,13 +142,11 @@ fn no_page() -> Opened
 fn opened_of(reading: u8, opened: Open) -> Opened
     ensures { result ≡ opened_of reading opened }
 {
-    let page = opened.page;
-    let kind = opened.kind;
     Opened {
         reading,
-        kind: kind.byte(),
+        kind: opened.kind.byte(),
         end: opened.end,
-        number: page.number,
+        number: opened.page.number,
         at: opened.at,
         size: opened.size,
         from: opened.from,
@@ -159,15 +155,15 @@ fn opened_of(reading: u8, opened: Open) -> Opened
 }
 
 // A page as it was opened in the reading of that number.
-pub fn opening_by(reading: u8, answer: OpenAnswer) -> Opening
+pub fn opening_by(reading: u8, answer: Result<Open, Refusal>) -> Opening
     ensures { result ≡ opening_by reading answer }
 {
     match answer {
-        OpenAnswer::Refused(refusal) => Opening {
+        Err(refusal) => Opening {
             refused: refused_by(refusal),
             opened: no_page(),
         },
-        OpenAnswer::Shown(opened) => Opening {
+        Ok(opened) => Opening {
             refused: no_refusal(),
             opened: opened_of(reading, opened),
         },

@@ -5,8 +5,10 @@
 #![tactic(auto)]
 
 ghost use Rattle.std.specs.Prelude.{◌≡◌};
+ghost use Rattle.answers.specs.declared.Refusal.TheVariants.{OnPage, InCell};
 ghost use Rattle.place.specs.Place.{old_page, file_page, header_at, place_from, place_of, page_at};
 
+use answers::{Fault, Reason, Refusal};
 use reading::Reading;
 use shape::Shape;
 
@@ -17,11 +19,34 @@ pub struct Page {
     pub number: u32,
 }
 
+impl Page {
+    // Why a call is refused on the page.
+    pub fn refusal(self, reason: Reason) -> Refusal
+        ensures { result ≡ OnPage self.number reason }
+    {
+        Refusal::OnPage {
+            page: self.number,
+            reason,
+        }
+    }
+
+    // And in one of its cells.
+    pub fn refusal_in(self, cell: usize, fault: Fault) -> Refusal
+        ensures { result ≡ InCell self.number cell fault }
+    {
+        Refusal::InCell {
+            page: self.number,
+            cell,
+            fault,
+        }
+    }
+}
+
 // Where a page lies in the bytes, and where its header stands in it.
 #[derive(Clone, Copy)]
-pub enum Place {
-    At { at: usize, from: usize },
-    Absent,
+pub struct Place {
+    pub at: usize,
+    pub from: usize,
 }
 
 // The page of that number as the Rust counts, from 0.
@@ -52,36 +77,33 @@ fn header_at(index: u32) -> usize
 }
 
 // The page at an index from 0. The product fits: an index and a size have 32 bits each.
-fn place_from(bytes: usize, size: u32, index: u32) -> Place
+fn place_from(bytes: usize, size: u32, index: u32) -> Option<Place>
     ensures { result ≡ place_from bytes size index }
 {
-    let at = (index as usize) * (size as usize);
-    if bytes < at + size as usize {
-        return Place::Absent;
+    let size = size as usize;
+    let at = index as usize * size;
+    if bytes < at + size {
+        return None;
     }
-    Place::At {
+    Some(Place {
         at,
         from: header_at(index),
-    }
+    })
 }
 
 // Where a page lies in so many bytes. The file format has no page 0, and none behind the last.
-pub fn place_of(bytes: usize, shape: Shape, page: Page) -> Place
+#[tactic(auto, unfolding(crate::specs::Place::place_of))]
+pub fn place_of(bytes: usize, shape: Shape, page: Page) -> Option<Place>
     ensures { result ≡ place_of page bytes shape }
 {
-    let reading = page.reading;
-    match reading {
-        Reading::Old => {
-            return place_from(bytes, shape.page_size, page.number);
-        }
+    match page.reading {
+        Reading::Old => place_from(bytes, shape.page_size, page.number),
         Reading::File => {
-            if page.number == 0 {
-                return Place::Absent;
-            }
+            let index = page.number.checked_sub(1)?;
             if shape.pages < page.number as usize {
-                return Place::Absent;
+                return None;
             }
-            return place_from(bytes, shape.page_size, page.number - 1);
+            place_from(bytes, shape.page_size, index)
         }
     }
 }

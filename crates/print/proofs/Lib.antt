@@ -1,6 +1,6 @@
 pub mod Signs
-pub mod Spelt
 pub mod Spelling
 pub mod Places
-pub mod Gathering
+pub mod Hexes
+pub mod Waits
 pub mod Written

@@ -2,7 +2,7 @@
 -- is in no page.
 use Rattle.std.specs.Prelude.{ℕ, List, get_or, replicate, pos}
 use Rattle.place.specs.declared.Page.{Page}
-use Rattle.page.specs.Open.{open_of, open_answer}
+use Rattle.page.specs.Open.{open_of}
 use Rattle.table.specs.declared.Entry.{Entry}
 use Rattle.table.specs.Entry.{filled}
 use Rattle.table.specs.Page.{page_of, written}
@@ -21,7 +21,7 @@ unfoldable pub returned_of : Page → List ℕ → List Entry → Returned
 returned_of asked db ys =
     record {
       answer = page_of asked 8 db;
-      table = filled (open_answer (open_of asked db)) db (written (page_of asked 8 db)) ys;
+      table = filled (open_of asked db) db (written (page_of asked 8 db)) ys;
     }
 
 -- a call that was lent blanks: its answer, and place i of the table; blank where there is no such place

@@ -4,23 +4,23 @@
 
 ghost use Rattle.std.specs.Prelude.{◌≡◌};
 ghost use Rattle.probe.specs.Probe.{returned_of, probe_of};
-// A page's answer may hold a refusal: the prover names each type that a value holds, and finds it by the crates that are named.
+
 use answers::Refusal;
 use halves::Share;
 use place::Page;
-use table::{Entry, PageAnswer};
+use table::{Entry, Head};
 
 // What `probe` answers: a page call's own answer, and one place of the table that was lent.
 #[derive(Clone, Copy)]
 pub struct Probed {
-    pub answer: PageAnswer,
+    pub answer: Result<Head, Refusal>,
     pub entry: Entry,
 }
 
 // A page call's answer, with the table that was lent to it.
 #[derive(Clone, Copy)]
 struct Returned {
-    answer: PageAnswer,
+    answer: Result<Head, Refusal>,
     table: [Entry; 8],
 }
 
@@ -37,21 +37,14 @@ const BLANK: Entry = Entry {
 
 // The page call for a caller that has no table to lend: one of eight blanks is lent, and its place i is shown, blank where
 // there is no such place. With plain parameters, so that tests of the page call can be covered.
-#[tactic(auto, using(crate::proofs::Shown::shown_below, crate::proofs::Shown::shown_above))]
+#[tactic(auto, unfolding(crate::specs::Probe::probe_of))]
 pub fn probe(db: &[u8], asked: Page, i: usize) -> Probed
     ensures { result ≡ probe_of i asked db.now }
 {
     let returned = lend(db, asked, [BLANK; 8]);
-    if i < 8 {
-        Probed {
-            answer: returned.answer,
-            entry: returned.table[i],
-        }
-    } else {
-        Probed {
-            answer: returned.answer,
-            entry: BLANK,
-        }
+    Probed {
+        answer: returned.answer,
+        entry: returned.table.get(i).copied().unwrap_or(BLANK),
     }
 }
 

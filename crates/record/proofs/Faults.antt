@@ -8,35 +8,35 @@ use lib.ListN.{length, drop}
 use Rattle.laws.specs.Pick.{pick}
 use Rattle.laws.proofs.Never.{never}
 use Rattle.varint.specs.declared.Number.{Number}
-use Rattle.varint.specs.declared.Varint.{Varint}
-use Rattle.varint.specs.declared.Varint.TheVariants as vi
 use Rattle.varint.specs.Varint.{varint_of}
 use Rattle.reading.specs.declared.Reading.{Reading}
 use Rattle.reading.specs.declared.Reading.TheVariants.{Old as old, File as file}
 use Rattle.reading.specs.Reading.{limit}
 use Rattle.answers.specs.declared.Fault.{Fault}
 use Rattle.answers.specs.declared.Fault.TheVariants as fa
-use Rattle.answers.specs.Answer.{Answer, refused, shown, ◌>>=◌}
+use Rattle.answers.specs.Answer.{◌>>=◌}
 use Rattle.record.specs.declared.Laid.{Laid}
 use Rattle.record.specs.declared.Laid.TheVariants.{Ends, Breaks, Reserved, Passes}
-use Rattle.record.specs.declared.Fit.{Fit}
-use Rattle.record.specs.declared.Fit.TheVariants.{Fits, Unfit}
 use Rattle.record.specs.Types.{Types, ended, walk}
 use Rattle.record.specs.Record.{Record, headless, counted, file_judged, judged, types_in, fitted, found, left_by, record_of}
+use Rattle.record.specs.Record.{fits_with}
+use Rattle.record.specs.declared.Fitted.{Fitted}
+use Rattle.std.specs.Prelude.{Err, Ok, Result}
+use Rattle.varint.specs.declared.Cause.{Cause}
 
-abbrev Own : Fit → Type 0
-Own (Fits col left) = Unit
-Own (Unfit fault) = fault ≡ fa.PayloadSpills → ⊥
+abbrev Own : Result Fitted Fault → Type 0
+Own (Ok fit) = Unit
+Own (Err fault) = fault ≡ fa.PayloadSpills → ⊥
 
-either : (b : Bool) (x y : Fit) → Own x → Own y → Own (pick b x y)
+either : (b : Bool) (x y : Result Fitted Fault) → Own x → Own y → Own (pick b x y)
 either true x y h k = h
 either false x y h k = k
 
 file-own : (end : Bool) (x : Laid) → Own (file_judged end x)
-file-own end (Ends col left) = either (eqb left 0) (Fits col left) (Unfit (fa.ValueUnfit col)) tt λ e. never cc
+file-own end (Ends col left) = either (eqb left 0) (fits_with col left) (Err (fa.ValueUnfit col)) tt λ e. never cc
 file-own end (Breaks col left) = λ e. never cc
-file-own end (Reserved col) = either end (Unfit (fa.TypeReserved col)) (Unfit fa.HeaderUnfit) (λ e. never cc) λ e. never cc
-file-own end (Passes col) = either end (Unfit (fa.ValueUnfit col)) (Unfit fa.HeaderUnfit) (λ e. never cc) λ e. never cc
+file-own end (Reserved col) = either end (Err (fa.TypeReserved col)) (Err fa.HeaderUnfit) (λ e. never cc) λ e. never cc
+file-own end (Passes col) = either end (Err (fa.ValueUnfit col)) (Err fa.HeaderUnfit) (λ e. never cc) λ e. never cc
 
 judged-own : (r : Reading) (ts : Types) (x : Laid) → Own (judged r ts x)
 judged-own old ts (Ends col left) = tt
@@ -56,19 +56,19 @@ headless-own : (r : Reading) → headless r ≡ fa.PayloadSpills → ⊥
 headless-own old e = never cc
 headless-own file e = never cc
 
-abbrev made : Reading → List ℕ → Number → ℕ → Answer Fault Record
-made r q h left = shown (record { header = h; types = types_in r (counted r h.length) h.value (drop h.length q); left = left })
+abbrev made : Reading → List ℕ → Number → ℕ → Result Record Fault
+made r q h left = Ok (record { header = h; types = types_in r (counted r h.length) h.value (drop h.length q); left = left })
 
-pub not-spilled : (r : Reading) (q : List ℕ) → record_of r q ≡ refused fa.PayloadSpills → ⊥
+pub not-spilled : (r : Reading) (q : List ℕ) → record_of r q ≡ Err fa.PayloadSpills → ⊥
 unfolding record_of
 not-spilled r q e = by-header (varint_of (limit r) q) e
   where
-    by-fit : (h : Number) (x : Fit) → Own x → (left_by x >>= made r q h) ≡ refused fa.PayloadSpills → ⊥
-    by-fit h (Fits col left) own d = never cc
-    by-fit h (Unfit fault) own d = own cc
+    by-fit : (h : Number) (x : Result Fitted Fault) → Own x → (left_by x >>= made r q h) ≡ Err fa.PayloadSpills → ⊥
+    by-fit h (Ok fit) own d = never cc
+    by-fit h (Err fault) own d = own cc
 
-    by-header : (v : Varint)
-        → (found (headless r) v >>= (λ h. left_by (fitted r (counted r h.length) h.value (drop h.length q)) >>= made r q h)) ≡ refused fa.PayloadSpills → ⊥
-    by-header (vi.Unfinished c) d = headless-own r cc
-    by-header (vi.Value h) d =
+    by-header : (v : Result Number Cause)
+        → (found (headless r) v >>= (λ h. left_by (fitted r (counted r h.length) h.value (drop h.length q)) >>= made r q h)) ≡ Err fa.PayloadSpills → ⊥
+    by-header (Err c) d = headless-own r cc
+    by-header (Ok h) d =
         by-fit h (fitted r (counted r h.length) h.value (drop h.length q)) (fitted-own r (counted r h.length) h.value (drop h.length q)) d

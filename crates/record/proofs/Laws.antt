@@ -10,15 +10,13 @@ use native.Mathlib.Nat.{le_of_eq}
 use borrow.Author.Tests.{lt-ltb, le-ltb, ne_eqb}
 use Rattle.laws.proofs.Parts.{tail}
 use Rattle.varint.specs.declared.Number.{Number}
-use Rattle.varint.specs.declared.Varint.{Varint}
-use Rattle.varint.specs.declared.Varint.TheVariants as vi
 use Rattle.varint.specs.declared.Cause.{Cause}
 use Rattle.varint.specs.Varint.{varint_of}
 use Rattle.varint.proofs.Laws.{length-bounds}
-use Rattle.serial.specs.declared.Width.TheVariants as wi
 use Rattle.serial.specs.Serial.{width_of}
 use Rattle.record.specs.declared.Laid.TheVariants.{Ends, Reserved, Passes}
 use Rattle.record.specs.Types.{Types, done, broken, column, typed, types, types_of, count, nth_type, walk}
+use Rattle.std.specs.Prelude.{Err, None, Ok, Result, Some}
 
 -- TYPES
 
@@ -37,11 +35,11 @@ fuel limit (suc k) zero (b ∷ s) h l = absurd (omega arith)
 fuel limit (suc k) (suc j) [] h l = refl
 fuel limit (suc k) (suc j) (b ∷ s) h l = go (varint_of limit (b ∷ s)) refl (λ m lk lj. fuel limit k j (drop m (b ∷ s)) lk lj)
   where
-    go : (v : Varint) → varint_of limit (b ∷ s) ≡ v
+    go : (v : Result Number Cause) → varint_of limit (b ∷ s) ≡ v
         → ((m : ℕ) → length (drop m (b ∷ s)) ≤ k → length (drop m (b ∷ s)) ≤ j → types limit k (drop m (b ∷ s)) ≡ types limit j (drop m (b ∷ s)))
         → typed v (λ n. types limit k (drop n (b ∷ s))) ≡ typed v (λ n. types limit j (drop n (b ∷ s)))
-    go (vi.Unfinished c) e ih = refl
-    go (vi.Value t) e ih =
+    go (Err c) e ih = refl
+    go (Ok t) e ih =
         let w = length-bounds (b ∷ s) limit e in
         ap (column t) (ih t.length (rw length-drop (omega arith)) (rw length-drop (omega arith)))
 
@@ -55,33 +53,33 @@ opened limit [] h = absurd (omega arith)
 opened limit (b ∷ s) h = let e : suc (length s) - 1 ≡ length s = omega arith in rw e
 
 module _ (limit : ℕ) (s : List ℕ) where
-  pub types-next : {t : Number} → varint_of limit s ≡ vi.Value t → types_of limit s ≡ column t (types_of limit (drop t.length s))
+  pub types-next : {t : Number} → varint_of limit s ≡ Ok t → types_of limit s ≡ column t (types_of limit (drop t.length s))
   types-next {t} e =
       let w = length-bounds s limit e in
       opened limit s (omega arith)
       ∙ rw e (ap (column t) (fuel limit (length s - 1) (length (drop t.length s)) (drop t.length s) (rw length-drop (omega arith)) (le_of_eq refl)))
 
-  pub types-broken : {c : Cause} → 0 < length s → varint_of limit s ≡ vi.Unfinished c → types_of limit s ≡ broken
+  pub types-broken : {c : Cause} → 0 < length s → varint_of limit s ≡ Err c → types_of limit s ≡ broken
   types-broken h e = opened limit s h ∙ rw e
 
 -- no type is counted where none is read
-pub none-counted : (limit : ℕ) (s : List ℕ) {c : Cause} → varint_of limit s ≡ vi.Unfinished c → count (types_of limit s) ≡ 0
+pub none-counted : (limit : ℕ) (s : List ℕ) {c : Cause} → varint_of limit s ≡ Err c → count (types_of limit s) ≡ 0
 none-counted limit [] e = ap count (types-nil limit)
 none-counted limit (b ∷ s) e = ap count (types-broken limit (b ∷ s) (omega arith) e)
 
 -- at a place of the bytes, where the code hands `&t[at..]` on
 module _ (limit : ℕ) (t : List ℕ) (at : ℕ) where
-  pub read_at : {r v : Varint} → r ≡ varint_of limit (take (length t - at) (drop at t)) → r ≡ v → varint_of limit (drop at t) ≡ v
+  pub read_at : {r v : Result Number Cause} → r ≡ varint_of limit (take (length t - at) (drop at t)) → r ≡ v → varint_of limit (drop at t) ≡ v
   read_at p q = rw (tail t at) at (sym p) ∙ q
 
-  pub room_at : {n : Number} → at ≤ length t → varint_of limit (drop at t) ≡ vi.Value n → (1 ≤ n.length) × (at + n.length ≤ length t)
+  pub room_at : {n : Number} → at ≤ length t → varint_of limit (drop at t) ≡ Ok n → (1 ≤ n.length) × (at + n.length ≤ length t)
   room_at h e = let w = simp length-drop at (length-bounds (drop at t) limit e) in omega arith
 
-  pub types-at : {n : Number} → varint_of limit (drop at t) ≡ vi.Value n
+  pub types-at : {n : Number} → varint_of limit (drop at t) ≡ Ok n
       → types_of limit (drop at t) ≡ column n (types_of limit (drop (at + n.length) t))
   types-at e = rw drop-drop at (types-next limit (drop at t) e)
 
-  pub types-break : {c : Cause} → at < length t → varint_of limit (drop at t) ≡ vi.Unfinished c → types_of limit (drop at t) ≡ broken
+  pub types-break : {c : Cause} → at < length t → varint_of limit (drop at t) ≡ Err c → types_of limit (drop at t) ≡ broken
   types-break h e = types-broken limit (drop at t) (rw length-drop (omega arith)) e
 
   pub types-end : length t ≤ at → types_of limit (drop at t) ≡ done
@@ -97,14 +95,14 @@ unfolding walk
 walk-done col left = refl
 
 module _ (col left : ℕ) (t : Number) (rest : Types) where
-  pub walk-reserved : width_of t.value ≡ wi.Reserved → walk col left (column t rest) ≡ Reserved col
+  pub walk-reserved : width_of t.value ≡ None → walk col left (column t rest) ≡ Reserved col
   unfolding walk
   walk-reserved e = simp (walk, e)
 
-  pub walk-passes : (w : ℕ) → width_of t.value ≡ wi.Bytes w → left < w → walk col left (column t rest) ≡ Passes col
+  pub walk-passes : (w : ℕ) → width_of t.value ≡ Some w → left < w → walk col left (column t rest) ≡ Passes col
   unfolding walk
   walk-passes w e h = simp (walk, e, lt-ltb left w h)
 
-  pub walk-on : (w : ℕ) → width_of t.value ≡ wi.Bytes w → w ≤ left → walk col left (column t rest) ≡ walk (col + 1) (left - w) rest
+  pub walk-on : (w : ℕ) → width_of t.value ≡ Some w → w ≤ left → walk col left (column t rest) ≡ walk (col + 1) (left - w) rest
   unfolding walk
   walk-on w e h = simp (walk, e, le-ltb left w h)

@@ -3,16 +3,14 @@
 -- File format, 2.1: "The header begins with a single varint which determines the total number of bytes in the header. The
 -- varint value is the size of the header in bytes including the size varint itself. Following the size varint are one or
 -- more additional varints, one per column."
-use Rattle.std.specs.Prelude.{ℕ, zero, suc, ◌+◌, ◌-◌, List, [], ◌∷◌, Bool, true, false, ltb, eqb, length, drop}
+use Rattle.std.specs.Prelude.{ℕ, zero, suc, ◌+◌, ◌-◌, List, [], ◌∷◌, Bool, true, false, ltb, eqb, length, drop, Err, None, Ok, Result, Some}
 use Rattle.laws.specs.Pick.{pick}
 use Rattle.varint.specs.declared.Number.{Number}
-use Rattle.varint.specs.declared.Varint.{Varint}
-use Rattle.varint.specs.declared.Varint.TheVariants as vi
 use Rattle.varint.specs.Varint.{varint_of}
-use Rattle.serial.specs.declared.Width.TheVariants as wi
 use Rattle.serial.specs.Serial.{width_of}
 use Rattle.record.specs.declared.Laid.{Laid}
 use Rattle.record.specs.declared.Laid.TheVariants.{Ends, Breaks, Reserved, Passes}
+use Rattle.varint.specs.declared.Cause.{Cause}
 
 -- the types that some bytes hold: to their end, or up to a varint that has no end there
 pub data Types : Type 0 where
@@ -21,9 +19,9 @@ pub data Types : Type 0 where
   column : Number → Types → Types
 
 -- a type, and the rest behind its bytes
-abbrev pub typed : Varint → (ℕ → Types) → Types
-typed (vi.Value t) rest = column t (rest t.length)
-typed (vi.Unfinished c) rest = broken
+abbrev pub typed : Result Number Cause → (ℕ → Types) → Types
+typed (Ok t) rest = column t (rest t.length)
+typed (Err c) rest = broken
 
 -- at most `most` types
 unfoldable pub types : ℕ → ℕ → List ℕ → Types
@@ -59,6 +57,6 @@ walk col left done = Ends col left
 walk col left broken = Breaks col left
 walk col left (column t rest) =
     elim (width_of t.value) [
-      | wi.Bytes w ↦ elim (ltb left w) [ true ↦ Passes col | false ↦ walk (col + 1) (left - w) rest ]
-      | wi.Reserved ↦ Reserved col
+      | Some w ↦ elim (ltb left w) [ true ↦ Passes col | false ↦ walk (col + 1) (left - w) rest ]
+      | None ↦ Reserved col
     ]

@@ -10,11 +10,10 @@ ghost use Rattle.record.specs.Record.{headless, counted, old_judged, file_judged
 
 use answers::Fault;
 use reading::{Reading, limit_of};
-use serial::Width;
-use varint::{Number, Varint};
+use varint::Number;
 
 // How the values of a header's types lie in the bytes behind it: columns, and bytes left over.
-#[derive(Clone, Copy)]
+#[derive(Clone, Copy, Debug, PartialEq, Eq)]
 pub enum Laid {
     Ends { columns: usize, left: u64 },
     // A varint with no end stands behind the last type.
@@ -23,14 +22,15 @@ pub enum Laid {
     Passes { column: usize },
 }
 
-#[derive(Clone, Copy)]
-pub enum Fit {
-    Fits { columns: usize, left: u64 },
-    Unfit(Fault),
+// Values that fit, in the same words.
+#[derive(Clone, Copy, Debug, PartialEq, Eq)]
+pub struct Fitted {
+    pub columns: usize,
+    pub left: u64,
 }
 
 // A record that is accepted.
-#[derive(Clone, Copy)]
+#[derive(Clone, Copy, Debug, PartialEq, Eq)]
 pub struct Record {
     // The header's size, and the bytes that it took.
     pub header: Number,
@@ -41,27 +41,16 @@ pub struct Record {
     pub left: u64,
 }
 
-#[derive(Clone, Copy)]
-pub enum RecordAnswer {
-    Whole(Record),
-    Faulty(Fault),
-}
-
 // Whether the types in `t` end where it does.
 pub fn types_end(t: &[u8], limit: usize) -> bool
     ensures { result ≡ ended (types_of limit t.now) }
 {
     let mut at: usize = 0;
     while at < t.len() {
-        let v = varint::read(&t[at..], limit);
-        match v {
-            Varint::Value(found) => {
-                at += found.length;
-            }
-            Varint::Unfinished(_) => {
-                return false;
-            }
-        }
+        let Ok(found) = varint::read(&t[at..], limit) else {
+            return false;
+        };
+        at += found.length;
     }
     true
 }
@@ -74,115 +63,89 @@ pub fn lay(t: &[u8], limit: usize, room: u64) -> Laid
     let mut col: usize = 0;
     let mut left = room;
     while at < t.len() {
-        let v = varint::read(&t[at..], limit);
-        match v {
-            Varint::Value(found) => {
-                let width = serial::width_of(found.value);
-                match width {
-                    Width::Bytes(w) => {
-                        if left < w {
-                            return Laid::Passes { column: col };
-                        }
-                        left -= w;
-                        at += found.length;
-                        col += 1;
-                    }
-                    Width::Reserved => {
-                        return Laid::Reserved { column: col };
-                    }
-                }
-            }
-            Varint::Unfinished(_) => {
-                return Laid::Breaks { columns: col, left };
-            }
+        let Ok(found) = varint::read(&t[at..], limit) else {
+            return Laid::Breaks { columns: col, left };
+        };
+        let Some(width) = serial::width_of(found.value) else {
+            return Laid::Reserved { column: col };
+        };
+        if left < width {
+            return Laid::Passes { column: col };
         }
+        left -= width;
+        at += found.length;
+        col += 1;
     }
     Laid::Ends { columns: col, left }
 }
 
 // What the Rust makes of types and values that lie so.
-fn old_judged(laid: Laid) -> Fit
+fn old_judged(laid: Laid) -> Result<Fitted, Fault>
     ensures { result ≡ old_judged laid }
 {
     match laid {
-        Laid::Ends { columns, left } => Fit::Fits { columns, left },
-        Laid::Breaks { columns, left } => Fit::Fits { columns, left },
-        Laid::Reserved { column } => Fit::Unfit(Fault::TypeReserved { column }),
-        Laid::Passes { column } => Fit::Unfit(Fault::ValueUnfit { column }),
+        Laid::Ends { columns, left } | Laid::Breaks { columns, left } => Ok(Fitted {
+            columns,
+            left,
+        }),
+        Laid::Reserved { column } => Err(Fault::TypeReserved { column }),
+        Laid::Passes { column } => Err(Fault::ValueUnfit { column }),
     }
 }
 
 // What the format makes of them. That the types end is looked for only where something else is wrong: where a walk ends,
 // they do.
-fn file_judged(t: &[u8], laid: Laid) -> Fit
+fn file_judged(t: &[u8], laid: Laid) -> Result<Fitted, Fault>
     ensures { result ≡ file_judged (ended (types_of 9 t.now)) laid }
 {
     match laid {
-        Laid::Ends { columns, left } => {
-            if left == 0 {
-                return Fit::Fits { columns, left };
-            }
-            return Fit::Unfit(Fault::ValueUnfit { column: columns });
+        Laid::Ends { columns, left: 0 } => Ok(Fitted { columns, left: 0 }),
+        Laid::Ends { columns, .. } => Err(Fault::ValueUnfit { column: columns }),
+        Laid::Reserved { column } if types_end(t, varint::FILE_LIMIT) => {
+            Err(Fault::TypeReserved { column })
         }
-        Laid::Breaks {
-            columns: _,
-            left: _,
-        } => {
-            return Fit::Unfit(Fault::HeaderUnfit);
+        Laid::Passes { column } if types_end(t, varint::FILE_LIMIT) => {
+            Err(Fault::ValueUnfit { column })
         }
-        Laid::Reserved { column } => {
-            if types_end(t, varint::FILE_LIMIT) {
-                return Fit::Unfit(Fault::TypeReserved { column });
-            }
-            return Fit::Unfit(Fault::HeaderUnfit);
-        }
-        Laid::Passes { column } => {
-            if types_end(t, varint::FILE_LIMIT) {
-                return Fit::Unfit(Fault::ValueUnfit { column });
-            }
-            return Fit::Unfit(Fault::HeaderUnfit);
+        Laid::Breaks { .. } | Laid::Reserved { .. } | Laid::Passes { .. } => {
+            Err(Fault::HeaderUnfit)
         }
     }
 }
 
 // Whether types and values fit in the bytes behind a header size `h`, which counts `a` bytes of its own.
-pub fn fit_of(s: &[u8], reading: Reading, a: u64, h: u64) -> Fit
+pub fn fit_of(s: &[u8], reading: Reading, a: u64, h: u64) -> Result<Fitted, Fault>
     ensures { result ≡ fitted reading a h s.now }
 {
-    if h < a {
-        return Fit::Unfit(Fault::HeaderUnfit);
-    }
-    if (s.len() as u64) < h - a {
-        return Fit::Unfit(Fault::HeaderUnfit);
-    }
-    let m = (h - a) as usize;
-    let t = &s[0..m];
-    let room = (s.len() - m) as u64;
+    let Some(size) = h.checked_sub(a) else {
+        return Err(Fault::HeaderUnfit);
+    };
+    let Some((types, values)) = s.split_at_checked(size as usize) else {
+        return Err(Fault::HeaderUnfit);
+    };
+    let room = values.len() as u64;
     match reading {
-        Reading::Old => old_judged(lay(t, varint::OLD_LIMIT, room)),
-        Reading::File => file_judged(t, lay(t, varint::FILE_LIMIT, room)),
+        Reading::Old => old_judged(lay(types, varint::OLD_LIMIT, room)),
+        Reading::File => file_judged(types, lay(types, varint::FILE_LIMIT, room)),
     }
 }
 
 // The record that `q` is (file) or that begins it (old).
-pub fn record_of(q: &[u8], reading: Reading) -> RecordAnswer
+pub fn record_of(q: &[u8], reading: Reading) -> Result<Record, Fault>
     ensures { result ≡ answer_of reading (record_of reading q.now) }
 {
-    let Varint::Value(header) = varint::read(q, limit_of(reading)) else {
-        return RecordAnswer::Faulty(headless_fault(reading));
+    let Ok(header) = varint::read(q, limit_of(reading)) else {
+        return Err(headless_fault(reading));
     };
     let own = header.length;
     let a = counted_of(reading, own);
-    let fitting = fit_of(&q[own..], reading, a, header.value);
-    match fitting {
-        Fit::Fits { columns, left } => RecordAnswer::Whole(Record {
-            header,
-            values: own + (header.value - a) as usize,
-            columns,
-            left,
-        }),
-        Fit::Unfit(fault) => RecordAnswer::Faulty(fault),
-    }
+    let Fitted { columns, left } = fit_of(&q[own..], reading, a, header.value)?;
+    Ok(Record {
+        header,
+        values: own + (header.value - a) as usize,
+        columns,
+        left,
+    })
 }
 
 fn headless_fault(reading: Reading) -> Fault

@@ -8,7 +8,6 @@ use lib.ListN.{length, take, drop}
 use lib.Seq.{drop-drop}
 use Rattle.laws.proofs.Parts.{part}
 use Rattle.answers.specs.declared.Refusal.{Refusal}
-use Rattle.answers.specs.Answer.{Answer, refused, shown}
 use Rattle.cell.proofs.Inside as cell
 use Rattle.columns.proofs.Opened.{cursor-slots}
 use Rattle.place.specs.declared.Page.{Page}
@@ -17,9 +16,9 @@ use Rattle.page.specs.declared.Open.{Open}
 use Rattle.cells.specs.Pointers.{part_at}
 use Rattle.cells.specs.Located.{Located, located_in, located_of}
 use Rattle.cells.proofs.Laws.{Held, held, part_length, steps, told_of}
-use Rattle.row.specs.declared.FoundAnswer.TheVariants as fo
 use Rattle.row.specs.Found.{payload_from, found_by, cursor_for, Lying}
 use Rattle.row.specs.Column.{slot_then, column_by, column_of, column_from}
+use Rattle.std.specs.Prelude.{Err, Ok, Result}
 
 pub record Placed (l : Located) (db : List ℕ) : Type 0 where
   pub within : payload_from l + l.cell.payload ≤ length db
@@ -58,22 +57,22 @@ module _ (o : Open) (i : ℕ) (db : List ℕ) {l : Located} (h : Held o i db l) 
         held = rw (h.opened, ← payload-is) lies.held;
       }
 
-pub placed-in : (o : Open) (i : ℕ) (db : List ℕ) {l : Located} → located_in o i db ≡ shown l → Placed l db
+pub placed-in : (o : Open) (i : ℕ) (db : List ℕ) {l : Located} → located_in o i db ≡ Ok l → Placed l db
 placed-in o i db e = held-placed o i db (held o i db e)
 
-pub placed : (page : Page) (i : ℕ) (db : List ℕ) {l : Located} → located_of page i db ≡ shown l → Placed l db
+pub placed : (page : Page) (i : ℕ) (db : List ℕ) {l : Located} → located_of page i db ≡ Ok l → Placed l db
 placed page i db e = let s = steps page i db e in placed-in s.o i db s.second
 
 -- a located cell by its page and what the code has of it: what the code asks of the two, and what it makes of them
-module _ (o : Open) (i : ℕ) (db : List ℕ) {l : Located} (e : located_in o i db ≡ shown l) where
+module _ (o : Open) (i : ℕ) (db : List ℕ) {l : Located} (e : located_in o i db ≡ Ok l) where
   pub lying : Lying o (told_of l) (length db)
   lying = let p = placed-in o i db e in rw (← (held o i db e).opened) (p.within, p.held.values, omega arith)
 
-  pub found-told : found_by (shown l) ≡ fo.Shown (record { page = o.page; cell = (told_of l).cell; cursor = cursor_for o (told_of l) })
+  pub found-told : found_by (Ok l) ≡ Ok (record { page = o.page; cell = (told_of l).cell; cursor = cursor_for o (told_of l) })
   found-told = rw (held o i db e).opened
 
 -- along the cursor are the columns of the definition
-pub column-along : (k : ℕ) (l : Located) (db : List ℕ) → Placed l db → column_from k db (found_by (shown l)) ≡ column_by k (shown l)
+pub column-along : (k : ℕ) (l : Located) (db : List ℕ) → Placed l db → column_from k db (found_by (Ok l)) ≡ column_by k (Ok l)
 column-along k l db p =
     ap (slot_then l.opened.page) (cursor-slots l.opened.page.reading (payload_from l) l.cell db p.held p.within k)
 
@@ -81,6 +80,6 @@ pub found-column : (k : ℕ) (page : Page) (i : ℕ) (db : List ℕ) → column_
 unfolding column_of
 found-column k page i db = go (located_of page i db) refl
   where
-    go : (x : Answer Refusal Located) → located_of page i db ≡ x → column_from k db (found_by x) ≡ column_by k x
-    go (refused refusal) e = refl
-    go (shown l) e = column-along k l db (placed page i db e)
+    go : (x : Result Located Refusal) → located_of page i db ≡ x → column_from k db (found_by x) ≡ column_by k x
+    go (Err refusal) e = refl
+    go (Ok l) e = column-along k l db (placed page i db e)

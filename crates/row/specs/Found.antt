@@ -1,15 +1,13 @@
 -- A cell that was checked, as the code hands it on: with its page and the cursor before its first column.
-use Rattle.std.specs.Prelude.{ℕ, ◌+◌, ◌≤◌}
+use Rattle.std.specs.Prelude.{ℕ, ◌+◌, ◌≤◌, Err, Ok, Result}
 use Rattle.answers.specs.declared.Refusal.{Refusal}
-use Rattle.answers.specs.Answer.{Answer, refused, shown}
 use Rattle.cell.specs.Cell.{told}
 use Rattle.columns.specs.declared.Cursor.{Cursor}
 use Rattle.columns.specs.Opened.{cursor_at}
 use Rattle.page.specs.declared.Open.{Open}
 use Rattle.cells.specs.declared.Located as dl
 use Rattle.cells.specs.Located.{Located}
-use Rattle.row.specs.declared.FoundAnswer.{FoundAnswer}
-use Rattle.row.specs.declared.FoundAnswer.TheVariants as fo
+use Rattle.row.specs.declared.FoundCell.{FoundCell}
 
 -- where the payload of a located cell begins in the bytes
 abbrev pub payload_from : Located → ℕ
@@ -18,10 +16,10 @@ payload_from l = l.opened.at + l.pointer + l.cell.numbers.length
 abbrev pub cursor_in : Located → Cursor
 cursor_in l = cursor_at l.opened.page.reading (payload_from l) l.cell
 
-abbrev pub found_by : Answer Refusal Located → FoundAnswer
-found_by (refused refusal) = fo.Refused refusal
-found_by (shown l) =
-    fo.Shown (record { page = l.opened.page; cell = told l.opened.page.reading l.cell; cursor = cursor_in l })
+abbrev pub found_by : Result Located Refusal → Result FoundCell Refusal
+found_by (Err refusal) = Err refusal
+found_by (Ok l) =
+    Ok (record { page = l.opened.page; cell = told l.opened.page.reading l.cell; cursor = cursor_in l })
 
 -- of a cell of an opened page as the code has it: where its payload begins, and its cursor
 abbrev pub from_for : Open → dl.Located → ℕ

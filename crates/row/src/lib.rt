@@ -7,17 +7,15 @@
 ghost use Rattle.std.specs.Prelude.{◌≡◌};
 ghost use Rattle.row.specs.Row.{cursor_by, cursor_of};
 ghost use Rattle.row.specs.Found.{cursor_for, Lying, found_by};
-ghost use Rattle.row.specs.Column.{slot_then, column_from, column_of};
+ghost use Rattle.row.specs.Column.{column_from, column_of};
 ghost use Rattle.cells.specs.Located.{located_in, located_of};
 
 use answers::{Reason, Refusal};
 use cell::Cell;
-use cells::{Located, LocatedAnswer};
+use cells::Located;
 use columns::{Cursor, Slot};
-use page::{Open, OpenAnswer};
+use page::Open;
 use place::Page;
-use reading::Reading;
-use varint::Number;
 
 // A cell that was checked, with its page and the cursor before its first column.
 #[derive(Clone, Copy)]
@@ -27,40 +25,17 @@ pub struct FoundCell {
     pub cursor: Cursor,
 }
 
-#[derive(Clone, Copy)]
-pub enum FoundAnswer {
-    Shown(FoundCell),
-    Refused(Refusal),
-}
-
-#[derive(Clone, Copy)]
-pub enum CursorAnswer {
-    Shown(Cursor),
-    Refused(Refusal),
-}
-
-#[derive(Clone, Copy)]
-pub enum ColumnAnswer {
-    // The column's serial type, and where its value stands.
-    Shown { serial: u64, at: usize },
-    Refused(Refusal),
-}
-
 // The cursor before the first column of a cell that lies in so many bytes.
 fn cursor_in(bytes: usize, opened: Open, located: Located) -> Cursor
     requires { Lying opened located bytes }
     ensures { result ≡ cursor_for opened located }
 {
-    let page = opened.page;
-    let reading: Reading = page.reading;
     let cell = located.cell;
-    let numbers = cell.numbers;
-    let header: Number = cell.header;
-    let from = opened.at + located.pointer as usize + numbers.length;
+    let from = opened.at + located.pointer as usize + cell.numbers.length;
     let values = from + cell.values;
     Cursor {
-        reading,
-        at: from + header.length,
+        reading: opened.page.reading,
+        at: from + cell.header.length,
         stop: values,
         value: values,
         end: from + cell.payload,
@@ -68,82 +43,50 @@ fn cursor_in(bytes: usize, opened: Open, located: Located) -> Cursor
 }
 
 // Cell `i` of a page that was opened, with no check of header and page made again.
-pub fn found_in(db: &[u8], opened: Open, i: usize) -> FoundAnswer
+pub fn found_in(db: &[u8], opened: Open, i: usize) -> Result<FoundCell, Refusal>
     ensures { result ≡ found_by (located_in opened i db.now) }
 {
-    let answer = cells::cell_in(db, opened, i);
-    match answer {
-        LocatedAnswer::Refused(refusal) => FoundAnswer::Refused(refusal),
-        LocatedAnswer::Shown(located) => {
-            let page = opened.page;
-            let cell = located.cell;
-            FoundAnswer::Shown(FoundCell {
-                page,
-                cell,
-                cursor: cursor_in(db.len(), opened, located),
-            })
-        }
-    }
+    let located = cells::cell_in(db, opened, i)?;
+    Ok(FoundCell {
+        page: opened.page,
+        cell: located.cell,
+        cursor: cursor_in(db.len(), opened, located),
+    })
 }
 
 // Cell `i` of a page.
-pub fn found(db: &[u8], page: Page, i: usize) -> FoundAnswer
+#[tactic(auto, unfolding(cells::specs::Located::located_of))]
+pub fn found(db: &[u8], page: Page, i: usize) -> Result<FoundCell, Refusal>
     ensures { result ≡ found_by (located_of page i db.now) }
 {
-    let answer = page::open_page(db, page);
-    match answer {
-        OpenAnswer::Refused(refusal) => FoundAnswer::Refused(refusal),
-        OpenAnswer::Shown(opened) => found_in(db, opened, i),
-    }
+    found_in(db, page::open_page(db, page)?, i)
 }
 
 // The cursor of a cell, if it was found.
-pub fn cursor_of(found: FoundAnswer) -> CursorAnswer
+pub fn cursor_of(found: Result<FoundCell, Refusal>) -> Result<Cursor, Refusal>
     ensures { result ≡ cursor_by found }
 {
-    match found {
-        FoundAnswer::Refused(refusal) => CursorAnswer::Refused(refusal),
-        FoundAnswer::Shown(cell) => {
-            let cursor = cell.cursor;
-            CursorAnswer::Shown(cursor)
-        }
-    }
+    Ok(found?.cursor)
 }
 
 // The cursor before the first column of cell `i` of the page.
-pub fn cursor(db: &[u8], page: Page, i: usize) -> CursorAnswer
+#[tactic(auto, unfolding(crate::specs::Row::cursor_of))]
+pub fn cursor(db: &[u8], page: Page, i: usize) -> Result<Cursor, Refusal>
     ensures { result ≡ cursor_of page i db.now }
 {
     cursor_of(found(db, page, i))
 }
 
-fn shown_at(page: Page, slot: Slot) -> ColumnAnswer
-    ensures { result ≡ slot_then page slot }
-{
-    match slot {
-        Slot::Missing => ColumnAnswer::Refused(Refusal::OnPage {
-            page: page.number,
-            reason: Reason::NoSuchColumn,
-        }),
-        Slot::Found { serial, at } => ColumnAnswer::Shown { serial, at },
-    }
-}
-
 // Column `k` of a cell, if it was found.
-pub fn column_of(db: &[u8], found: FoundAnswer, k: usize) -> ColumnAnswer
+pub fn column_of(db: &[u8], found: Result<FoundCell, Refusal>, k: usize) -> Result<Slot, Refusal>
     ensures { result ≡ column_from k db.now found }
 {
-    match found {
-        FoundAnswer::Refused(refusal) => ColumnAnswer::Refused(refusal),
-        FoundAnswer::Shown(cell) => {
-            let first = cell.cursor;
-            shown_at(cell.page, first.find(db, k))
-        }
-    }
+    let FoundCell { page, cursor, .. } = found?;
+    cursor.find(db, k).ok_or(page.refusal(Reason::NoSuchColumn))
 }
 
 // Column `k` of cell `i`: its type, and where its value stands.
-pub fn column(db: &[u8], page: Page, i: usize, k: usize) -> ColumnAnswer
+pub fn column(db: &[u8], page: Page, i: usize, k: usize) -> Result<Slot, Refusal>
     ensures { result ≡ column_of page i k db.now }
 {
     column_of(db, found(db, page, i), k)

@@ -3,7 +3,6 @@ use Prim.Native.Nat.{ℕ}
 use mathlib.Core.Path.{◌≡◌, refl, ap}
 use mathlib.Core.List.{List}
 use Rattle.answers.specs.declared.Refusal.{Refusal}
-use Rattle.answers.specs.Answer.{Answer, refused, shown}
 use Rattle.record.specs.Types.{count}
 use Rattle.shortest_cells.specs.Cells.{cell_shortest, all_shortest}
 use Rattle.columns.proofs.Opened.{cursor-types}
@@ -12,11 +11,11 @@ use Rattle.cells.specs.Located.{Located, row_number, located_of}
 use Rattle.row.specs.Found.{payload_from, found_by}
 use Rattle.row.proofs.Told.{found_cell}
 use Rattle.row.proofs.Placed.{Placed}
-use Rattle.row_head.specs.declared.CountAnswer.TheVariants as co
-use Rattle.row_head.specs.declared.RowNumberAnswer.TheVariants as ro
 use Rattle.row_head.specs.Head.{count_by, count_of, row_by, row_of, shortest_by, shortest_in, shortest_for, count_for, row_for}
+use Rattle.row_head.specs.Head.{count_told, row_told}
+use Rattle.std.specs.Prelude.{Err, Ok, Result}
 
-module _ (page : Page) (i : ℕ) (db : List ℕ) {x : Answer Refusal Located} (e : located_of page i db ≡ x) where
+module _ (page : Page) (i : ℕ) (db : List ℕ) {x : Result Located Refusal} (e : located_of page i db ≡ x) where
   pub count-located : count_of page i db ≡ count_by x
   unfolding count_of
   count-located = ap count_by e
@@ -32,14 +31,14 @@ shortest-found l db p =
     (cursor-types l.opened.page.reading (payload_from l) l.cell db p.held)
 
 module _ (db : List ℕ) where
-  pub shortest-located : (x : Answer Refusal Located) → ((l : Located) → x ≡ shown l → Placed l db) → shortest_for (found_by x) db ≡ shortest_by x
-  shortest-located (refused refusal) p = refl
-  shortest-located (shown l) p = shortest-found l db (p l refl)
+  pub shortest-located : (x : Result Located Refusal) → ((l : Located) → x ≡ Ok l → Placed l db) → shortest_for (found_by x) db ≡ shortest_by x
+  shortest-located (Err refusal) p = refl
+  shortest-located (Ok l) p = shortest-found l db (p l refl)
 
-  pub count-found : (x : Answer Refusal Located) → ((l : Located) → x ≡ shown l → Placed l db) → count_for (found_by x) db ≡ count_by x
-  count-found (refused refusal) p = refl
-  count-found (shown l) p = ap (co.Shown (count l.cell.types)) (shortest-found l db (p l refl))
+  pub count-found : (x : Result Located Refusal) → ((l : Located) → x ≡ Ok l → Placed l db) → count_for (found_by x) db ≡ count_by x
+  count-found (Err refusal) p = refl
+  count-found (Ok l) p = ap (count_told (count l.cell.types)) (shortest-found l db (p l refl))
 
-  pub row-found : (x : Answer Refusal Located) → ((l : Located) → x ≡ shown l → Placed l db) → row_for (found_by x) db ≡ row_by x
-  row-found (refused refusal) p = refl
-  row-found (shown l) p = ap (ro.Shown (row_number l.cell.row.value)) (shortest-found l db (p l refl))
+  pub row-found : (x : Result Located Refusal) → ((l : Located) → x ≡ Ok l → Placed l db) → row_for (found_by x) db ≡ row_by x
+  row-found (Err refusal) p = refl
+  row-found (Ok l) p = ap (row_told (row_number l.cell.row.value)) (shortest-found l db (p l refl))

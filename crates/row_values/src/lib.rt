@@ -6,6 +6,3 @@
 
 pub mod file;
 pub mod old;
-
-// A cursor has a reading: the prover names each type that a value holds, and finds it by the crates that are named.
-use reading::Reading;

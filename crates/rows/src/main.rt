@@ -72,8 +72,5 @@ fn fail(rt: &HostRuntime, why: io::Error) -> io::Result<()> {
 }
 
 fn is_dash(name: &[u8]) -> bool {
-    if name.len() != 1 {
-        return false;
-    }
-    name[0] == b'-'
+    name == b"-".as_slice()
 }

@@ -8,15 +8,16 @@ use lib.IntN.{ℤ}
 use lib.ListN.{length, take, drop, length-append, take-append-drop}
 use lib.Seq.{length-take-le, sets, length-sets, sets-eq, take_at, drop_at, drop-drop}
 use Rattle.columns.specs.declared.Cursor.{Cursor}
-use Rattle.columns.specs.declared.Stepped.TheVariants.{Column, Done}
 use Rattle.columns.specs.Columns.{step_of}
 use Rattle.turns.specs.Rows.{filled_of}
 use Rattle.turns.specs.Words.{words_of, value_at}
 use Rattle.run.specs.Run.{Run, run, before, run_from, filled_by, over}
+use Rattle.columns.specs.Columns.{step_over}
+use Rattle.std.specs.Prelude.{None}
 
 -- RUNS
 
-pub run-done : (places : ℕ) (c : Cursor) (db : List ℕ) → step_of c db ≡ Done → run_from places c db ≡ run 0 c []
+pub run-done : (places : ℕ) (c : Cursor) (db : List ℕ) → step_of c db ≡ None → run_from places c db ≡ run 0 c []
 unfolding run_from
 run-done zero c db e = refl
 run-done (suc places) c db e = rw (run_from, e)
@@ -25,7 +26,7 @@ pub run-full : (c : Cursor) (db : List ℕ) → run_from 0 c db ≡ run 0 c []
 unfolding run_from
 run-full c db = refl
 
-pub run_more : (places : ℕ) (c : Cursor) (db : List ℕ) {t at : ℕ} {next : Cursor} → step_of c db ≡ Column t at next
+pub run_more : (places : ℕ) (c : Cursor) (db : List ℕ) {t at : ℕ} {next : Cursor} → step_of c db ≡ step_over t at next
     → run_from (suc places) c db ≡ before 1 (words_of (value_at c.reading t at db)) (run_from places next db)
 unfolding run_from
 run_more places c db e = rw (run_from, e)
@@ -75,7 +76,7 @@ module _ (places : ℕ) (first : Cursor) (db : List ℕ) (lent : List ℤ) where
 
   module _ (room : 5 * places ≤ length lent) (table : List ℤ) (here : Cursor) (n : ℕ) (h : Held places first db lent table here n) where
     -- one value more
-    pub one_more : (words : List ℤ) (next : Cursor) {t at : ℕ} → n < places → step_of here db ≡ Column t at next
+    pub one_more : (words : List ℤ) (next : Cursor) {t at : ℕ} → n < places → step_of here db ≡ step_over t at next
         → words_of (value_at here.reading t at db) ≡ words → length words ≡ 5
         → Held places first db lent (sets table (5 * n) words) next (n + 1)
     one_more words next {t} {at} l s w five =

@@ -1,7 +1,6 @@
 -- The values of a row in a lent table: along a cursor, as many as there are places, each in five words.
-use Rattle.std.specs.Prelude.{ℕ, zero, suc, ◌+◌, List, [], ◌++◌, ℤ, length, drop}
+use Rattle.std.specs.Prelude.{ℕ, zero, suc, ◌+◌, List, [], ◌++◌, ℤ, length, drop, None, Some}
 use Rattle.columns.specs.declared.Cursor.{Cursor}
-use Rattle.columns.specs.declared.Stepped.TheVariants.{Column, Done}
 use Rattle.columns.specs.Columns.{step_of}
 use Rattle.turns.specs.declared.types.Filled.{Filled}
 use Rattle.turns.specs.Rows.{filled_of}
@@ -20,8 +19,8 @@ unfoldable pub run_from : ℕ → Cursor → List ℕ → Run
 run_from zero c db = run 0 c []
 run_from (suc places) c db =
     elim (step_of c db) [
-      | Column t at next ↦ before 1 (words_of (value_at c.reading t at db)) (run_from places next db)
-      | Done ↦ run 0 c []
+      | Some x ↦ before 1 (words_of (value_at c.reading x.serial x.at db)) (run_from places x.next db)
+      | None ↦ run 0 c []
     ]
 
 abbrev pub filled_by : Run → Filled

@@ -4,8 +4,7 @@
 ghost use Rattle.std.specs.Prelude.{◌≡◌, ◌/◌, length};
 ghost use Rattle.run.specs.Run.{run_from, filled_by, over};
 
-use columns::{Cursor, Stepped};
-use reading::Reading;
+use columns::{Cursor, Step};
 use turns::rows::filled_of;
 use turns::types::Filled;
 
@@ -16,17 +15,13 @@ pub fn fill(db: &[u8], first: Cursor, table: &mut [i64]) -> Filled
 {
     let places = words::places_of(table.len());
     let mut here = first;
-    let mut n: usize = 0;
-    while n < places {
-        let reached = here.step(db);
-        let Stepped::Column { serial, at, next } = reached else {
+    for n in 0..places {
+        let Some(Step { serial, at, next }) = here.step(db) else {
             return filled_of(n, here);
         };
-        let reading: Reading = here.reading;
-        let value = words::value_at(db, reading, serial, at);
+        let value = words::value_at(db, here.reading, serial, at);
         words::put_value(&mut table[5 * n..5 * n + 5], value);
         here = next;
-        n += 1;
     }
-    filled_of(n, here)
+    filled_of(places, here)
 }

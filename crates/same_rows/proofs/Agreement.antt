@@ -11,20 +11,15 @@ use Rattle.laws.proofs.Never.{never}
 use Rattle.reading.specs.declared.Reading.{Reading}
 use Rattle.reading.specs.declared.Reading.TheVariants.{Old as old, File as file}
 use Rattle.answers.specs.declared.Refusal.{Refusal}
-use Rattle.answers.specs.Answer.{Answer, refused, shown}
 use Rattle.columns.specs.declared.Cursor.{Cursor}
-use Rattle.columns.specs.declared.Slot.TheVariants.{Found}
 use Rattle.columns.specs.Columns.{slot_of}
 use Rattle.place.specs.declared.Page.{Page}
 use Rattle.place.specs.Place.{old_page, file_page}
 use Rattle.page.specs.declared.Open.{Open}
 use Rattle.page.specs.Open as page
-use Rattle.page.specs.Open.{open_answer}
 use Rattle.page.proofs.Steps.{open-page, open-file}
 use Rattle.cells.specs.Located.{Located, located_in}
 use Rattle.cells.proofs.Laws.{held, located-open}
-use Rattle.row.specs.declared.ColumnAnswer.{ColumnAnswer}
-use Rattle.row.specs.declared.ColumnAnswer.TheVariants as cl
 use Rattle.row.specs.Found.{cursor_in, found_by}
 use Rattle.row.specs.Column.{slot_then, column_by}
 use Rattle.row_values.specs.Old as old-calls
@@ -34,10 +29,8 @@ use Rattle.row_values.proofs.Told.{old-shown-located, file-shown-located}
 use Rattle.guarded.specs.Guarded as guarded
 use Rattle.guarded.proofs.Guard.{leaf-opened, guarded-in, guarded-open}
 use Rattle.guarded.proofs.Calls.{guarded-shown-located}
-use Rattle.usual.specs.declared.RowAnswer.{RowAnswer}
-use Rattle.usual.specs.declared.RowAnswer.TheVariants as ra
 use Rattle.usual.specs.Usual as usual
-use Rattle.usual.proofs.Rows.{row-found}
+use Rattle.usual.proofs.Rows.{row-found, row-parts}
 use Rattle.turns.specs.declared.types.Opened.{Opened}
 use Rattle.turns.specs.declared.types.Shown.{Shown}
 use Rattle.turns.specs.Refusals.{accepted}
@@ -54,34 +47,40 @@ use Rattle.run.proofs.Places.{words_in, place-holds, over-run}
 use Rattle.checked.proofs.Laws.{whole-found}
 use Rattle.filled.proofs.Found.{found-whole}
 use Rattle.pages.proofs.Back.{Behind, page-behind}
+use Rattle.columns.specs.Columns.{slot_at}
+use Rattle.columns.specs.declared.Slot.{Slot}
+use Rattle.row.specs.Column.{column_at}
+use Rattle.std.specs.Prelude.{Err, Ok, Result}
+use Rattle.usual.specs.Usual.{row_with}
+use Rattle.usual.specs.declared.Row.{Row}
 
 -- SINGLE CALLS, by the cell that their reading locates
 
 -- a column as its reading shows it
-abbrev shown_in : Reading → List ℕ → ColumnAnswer → Shown
+abbrev shown_in : Reading → List ℕ → Result Slot Refusal → Shown
 shown_in old db answer = old_shown (old-calls.shown_by db answer)
 shown_in file db answer = file_shown (file-calls.shown_by db answer)
 
-shown-value : (r : Reading) (db : List ℕ) (t at : ℕ) → shown_in r db (cl.Shown t at) ≡ record { refused = accepted; value = value_at r t at db }
+shown-value : (r : Reading) (db : List ℕ) (t at : ℕ) → shown_in r db (column_at t at) ≡ record { refused = accepted; value = value_at r t at db }
 shown-value old db t at = refl
 shown-value file db t at = refl
 
 -- what the calls of a reading answer of cell i of a page, and what is found of it where the page was opened
 record Located-by (reading number i : ℕ) (db : List ℕ) (o : Opened) : Type 0 where
-  x : Answer Refusal Located
+  x : Result Located Refusal
   row : row_in o i db ≡ usual.row_by (found_by x)
   cell : cell_in reading number i db ≡ cell_for x
   shows : (k : ℕ) → shown_of reading number i k db ≡ shown_in (reading_by o.reading) db (column_by k x)
-  lies : (l : Located) → x ≡ shown l → located_in (open_by o) i db ≡ shown l
+  lies : (l : Located) → x ≡ Ok l → located_in (open_by o) i db ≡ Ok l
 
 module _ (i : ℕ) (db : List ℕ) (o : Opened) where
   -- a page that is handed back is that of the old or the file reading
   again : (asked : Page) (n : ℕ) → reading_by n ≡ asked.reading
-      → opening_by n (open_answer (page.open_of asked db)) ≡ record { refused = accepted; opened = o } → Behind n (page.open_of asked db) o
+      → opening_by n (page.open_of asked db) ≡ record { refused = accepted; opened = o } → Behind n (page.open_of asked db) o
   again asked n names e = page-behind n (page.open_of asked db) o (λ p d. ap (λ (q : Page). q.reading) (open-page asked db d) ∙ sym names) e
 
   -- or that of the guarded one
-  again-guarded : (number : ℕ) → opening_by 2 (open_answer (guarded.open_of number db)) ≡ record { refused = accepted; opened = o }
+  again-guarded : (number : ℕ) → opening_by 2 (guarded.open_of number db) ≡ record { refused = accepted; opened = o }
       → Behind 2 (guarded.open_of number db) o
   again-guarded number e =
       page-behind 2 (guarded.open_of number db) o (λ p d. open-file number db (leaf-opened number db d).0) e
@@ -93,7 +92,7 @@ module _ (i : ℕ) (db : List ℕ) (o : Opened) where
   row-guarded : o.reading ≡ 2 → row_in o i db ≡ usual.row_by (found_by (guarded.located_in (open_by o) i db))
   row-guarded r = ap (λ (m : ℕ). usual.row_in (eqb m 2) (open_by o) i db) r ∙ row-found true (open_by o) i db
 
-  column-of : (n : ℕ) (r : Reading) (answer : ColumnAnswer) → o.reading ≡ n → reading_by n ≡ r
+  column-of : (n : ℕ) (r : Reading) (answer : Result Slot Refusal) → o.reading ≡ n → reading_by n ≡ r
       → shown_in r db answer ≡ shown_in (reading_by o.reading) db answer
   column-of n r answer f g = ap (λ (q : Reading). shown_in q db answer) (sym (ap reading_by f ∙ g))
 
@@ -139,26 +138,26 @@ located-by reading number i db o e = go (eqb reading 0) (eqb reading 2) refl ref
 
 -- THE CELL
 
-cell-from : (x : Answer Refusal Located) → cell_for x ≡ cell_from (usual.row_by (found_by x)) (cell_for x).shortest
-cell-from (refused refusal) = refl
-cell-from (shown l) = refl
+cell-from : (x : Result Located Refusal) → cell_for x ≡ cell_from (usual.row_by (found_by x)) (cell_for x).shortest
+cell-from (Err refusal) = refl
+cell-from (Ok l) = refl
 
 pub cells_agree : CellsAgree
 cells_agree reading number i db o e =
     let b = located-by reading number i db o e in
     b.cell ∙ cell-from b.x
-    ∙ ap (λ (r : RowAnswer). cell_from r (cell_for b.x).shortest) (sym b.row)
+    ∙ ap (λ (r : Result Row Refusal). cell_from r (cell_for b.x).shortest) (sym b.row)
     ∙ ap (λ (c : Cell). cell_from (row_in o i db) c.shortest) (sym b.cell)
 
 -- ITS VALUES
 
 -- a column that its cursor finds is the one that is asked for, in the page's reading
-along-cursor : (o : Open) (i k : ℕ) (db : List ℕ) (x : Answer Refusal Located) {n columns : ℕ} {c : Cursor} {t at : ℕ}
-    → usual.row_by (found_by x) ≡ ra.Shown n columns c → ((l : Located) → x ≡ shown l → located_in o i db ≡ shown l) → slot_of k c db ≡ Found t at
-    → (column_by k x ≡ cl.Shown t at) × (c.reading ≡ o.page.reading)
-along-cursor o i k db (refused refusal) e lies f = never cc
-along-cursor o i k db (shown l) {c = c} e lies f =
-    let q : cursor_in l ≡ c = cc in
+along-cursor : (o : Open) (i k : ℕ) (db : List ℕ) (x : Result Located Refusal) {n columns : ℕ} {c : Cursor} {t at : ℕ}
+    → usual.row_by (found_by x) ≡ row_with n columns c → ((l : Located) → x ≡ Ok l → located_in o i db ≡ Ok l) → slot_of k c db ≡ slot_at t at
+    → (column_by k x ≡ column_at t at) × (c.reading ≡ o.page.reading)
+along-cursor o i k db (Err refusal) e lies f = never cc
+along-cursor o i k db (Ok l) {c = c} e lies f =
+    let q : cursor_in l ≡ c = (row-parts e).2 in
     let h = lies l refl in
     let named : l.opened ≡ o = (held o i db h).opened in (
       sym (column-along k l db (placed-in o i db h))
@@ -174,7 +173,7 @@ row_shows reading number i places db table o n columns c e d k l room =
     let s = along-cursor (open_by o) i k db b.x (sym b.row ∙ d) b.lies h.is in
     let v : shown_of reading number i k db ≡ record { refused = accepted; value = value_at c.reading h.t h.at db } =
     b.shows k ∙ ap (shown_in (reading_by o.reading) db) s.0
-    ∙ ap (λ (r : Reading). shown_in r db (cl.Shown h.t h.at)) (sym s.1) ∙ shown-value c.reading db h.t h.at in
+    ∙ ap (λ (r : Reading). shown_in r db (column_at h.t h.at)) (sym s.1) ∙ shown-value c.reading db h.t h.at in
     rw (v, d, over-run (run_from places c db) table) (refl, place-holds k places c db (drop (length (words_in (run_from places c db))) table) room h.is)
 
 -- HOW MANY

@@ -2,11 +2,9 @@
 -- call on its cell has the same row number, column count and cursor, or refuses it with the same refusal; and each place of
 -- the table that a column of the row has holds, in five words, the value that the call on this column shows. There are as many
 -- values as the row has columns, or as the table has places.
-use Rattle.std.specs.Prelude.{ℕ, ◌*◌, ◌<◌, ◌≡◌, List, ltb, eqb, ℤ, take, drop}
+use Rattle.std.specs.Prelude.{ℕ, ◌*◌, ◌<◌, ◌≡◌, List, ltb, eqb, ℤ, take, drop, Err, Ok, Result}
 use Rattle.laws.specs.Pick.{pick}
 use Rattle.columns.specs.declared.Cursor.{Cursor}
-use Rattle.usual.specs.declared.RowAnswer.{RowAnswer}
-use Rattle.usual.specs.declared.RowAnswer.TheVariants as ra
 use Rattle.turns.specs.declared.types.Opened.{Opened}
 use Rattle.turns.specs.declared.types.Cell.{Cell}
 use Rattle.turns.specs.declared.types.Shown.{Shown}
@@ -15,6 +13,9 @@ use Rattle.turns.specs.Rows.{no_cell, cell_of}
 use Rattle.turns.specs.Words.{words_of}
 use Rattle.filled.specs.Row.{row_by, row_over}
 use Rattle.exports.specs.Calls.{opening_of, row_in, old_cell, file_cell, guarded_cell, old_shown_of, file_shown_of, guarded_shown_of}
+use Rattle.answers.specs.declared.Refusal.{Refusal}
+use Rattle.usual.specs.Usual.{row_with}
+use Rattle.usual.specs.declared.Row.{Row}
 
 -- SINGLE CALLS, by the number of the reading: 0 is old, 2 guarded, any other number file
 
@@ -33,9 +34,9 @@ shown_of reading number i k db =
 -- THE CELL
 
 -- a row as the call on its cell answers it; that call alone tells of its varints
-abbrev pub cell_from : RowAnswer → ℕ → Cell
-cell_from (ra.Refused refusal) shortest = no_cell refusal
-cell_from (ra.Shown number columns c) shortest = cell_of number columns c shortest
+abbrev pub cell_from : Result Row Refusal → ℕ → Cell
+cell_from (Err refusal) shortest = no_cell refusal
+cell_from (Ok row) shortest = cell_of row.number row.columns row.cursor shortest
 
 abbrev pub CellsAgree : Type 0
 CellsAgree = (reading number i : ℕ) (db : List ℕ) (o : Opened)
@@ -48,12 +49,12 @@ CellsAgree = (reading number i : ℕ) (db : List ℕ) (o : Opened)
 abbrev pub RowShows : Type 0
 RowShows = (reading number i places : ℕ) (db : List ℕ) (table : List ℤ) (o : Opened) (n columns : ℕ) (c : Cursor)
     → opening_of reading number db ≡ record { refused = accepted; opened = o }
-    → row_in o i db ≡ ra.Shown n columns c
+    → row_in o i db ≡ row_with n columns c
     → (k : ℕ) → k < columns → k < places
     → ((shown_of reading number i k db).refused ≡ accepted)
     × (take 5 (drop (5 * k) (row_over places db (row_in o i db) table)) ≡ words_of (shown_of reading number i k db).value)
 
 abbrev pub AsManyAsFit : Type 0
 AsManyAsFit = (i places : ℕ) (db : List ℕ) (o : Opened) (n columns : ℕ) (c : Cursor)
-    → row_in o i db ≡ ra.Shown n columns c
+    → row_in o i db ≡ row_with n columns c
     → (row_by places db (row_in o i db)).count ≡ pick (ltb columns places) columns places

@@ -11,8 +11,6 @@ use Rattle.reading.specs.declared.Reading.{Reading}
 use Rattle.reading.specs.Reading.{limit}
 use Rattle.serial.specs.Serial.{width_of}
 use Rattle.columns.specs.declared.Cursor.{Cursor}
-use Rattle.columns.specs.declared.Slot.{Slot}
-use Rattle.columns.specs.declared.Slot.TheVariants.{Found, Missing}
 use Rattle.columns.specs.Columns.{slot_of, behind, step_of}
 use Rattle.columns.specs.Along.{slot_by}
 use Rattle.columns.proofs.Laws.{ahead, type-within, slot-none}
@@ -27,6 +25,9 @@ use Rattle.turns.specs.Refusals.{accepted}
 use Rattle.turns.specs.Words.{value_at}
 use Rattle.chosen.specs.Chosen.{slot_shown}
 use Rattle.screen.specs.Coming.{Coming, type_at}
+use Rattle.columns.specs.Columns.{slot_at}
+use Rattle.columns.specs.declared.Slot.{Slot}
+use Rattle.std.specs.Prelude.{None, Option}
 
 -- the cursor behind n columns, of a row that has so many
 pub record Before (first : Cursor) (columns : ℕ) (db : List ℕ) (here : Cursor) (n : ℕ) : Type 0 where
@@ -38,7 +39,7 @@ module _ {first : Cursor} {columns : ℕ} {db : List ℕ} where
   before-first w = record { is = sym (past-none first db); left = at_first first columns db w }
 
   -- there is none behind the last
-  pub none-behind : Whole first columns db → (k : ℕ) → columns ≤ k → slot_of k first db ≡ Missing
+  pub none-behind : Whole first columns db → (k : ℕ) → columns ≤ k → slot_of k first db ≡ None
   none-behind w k l = slot-none first db k (rw w.columns l)
 
   module _ {here : Cursor} {n : ℕ} (b : Before first columns db here n) (l : n < columns) where
@@ -73,7 +74,7 @@ module _ {first : Cursor} {columns : ℕ} {db : List ℕ} where
         rw there-is (record { is = sym (past_next n first db step); left = x.left })
 
     -- the column of the definition
-    pub column-here : {t : Number} → t ≡ type_at here db → slot_of n first db ≡ Found t.value here.value
+    pub column-here : {t : Number} → t ≡ type_at here db → slot_of n first db ≡ slot_at t.value here.value
     column-here e = slot-past n first db ∙ ap (λ (c : Cursor). slot_by (step_of c db)) (sym b.is) ∙ ap slot_by x.step ∙ rw (type-is e)
 
 -- the cursor behind some columns stands before the next
@@ -87,7 +88,7 @@ past-before {first} {columns} {db} w (suc k) l =
     (record { is = refl; left = subst (λ (h : Cursor). Left first.reading columns db h (k + 1)) (sym there) x.left })
 
 -- a value, as it is shown
-pub shown-found : (r : Reading) (number : ℕ) (db : List ℕ) {slot : Slot} {t at : ℕ} {refused : Refused} {value : Value} → slot ≡ Found t at
+pub shown-found : (r : Reading) (number : ℕ) (db : List ℕ) {slot : Option Slot} {t at : ℕ} {refused : Refused} {value : Value} → slot ≡ slot_at t at
     → refused ≡ accepted → value ≡ value_at r t at db
     → ◌≡◌ {A = Shown} (record { refused = refused; value = value }) (slot_shown r number db slot)
 shown-found r number db {slot} {t} {at} s a v = rw (s, a, v)

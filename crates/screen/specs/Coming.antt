@@ -1,7 +1,6 @@
 -- A column of a row that was checked, as the code comes to it. Nothing of it is in what the call promises.
-use Rattle.std.specs.Prelude.{ℕ, ◌-◌, ◌≤◌, ◌≡◌, List, length, take, drop}
+use Rattle.std.specs.Prelude.{ℕ, ◌-◌, ◌≤◌, ◌≡◌, List, length, take, drop, Ok}
 use Rattle.varint.specs.declared.Number.{Number}
-use Rattle.varint.specs.declared.Varint.TheVariants as vi
 use Rattle.varint.specs.Varint.{varint_of}
 use Rattle.reading.specs.Reading.{limit}
 use Rattle.columns.specs.declared.Cursor.{Cursor}
@@ -14,5 +13,5 @@ type_at c db = number_by (varint_of (limit c.reading) (take (c.stop - c.at) (dro
 -- there is one, and the value of its width
 pub record Coming (c : Cursor) (db : List ℕ) : Type 0 where
   pub t : Number
-  pub read : varint_of (limit c.reading) (take (c.stop - c.at) (drop c.at db)) ≡ vi.Value t
+  pub read : varint_of (limit c.reading) (take (c.stop - c.at) (drop c.at db)) ≡ Ok t
   pub header : c.stop ≤ length db

@@ -18,11 +18,13 @@ use crate::lists::{cell_at, count_of, page_at, places_of};
 use crate::rows::{in_row, refused_in};
 use answers::{Reason, Refusal};
 use chosen::Chosen;
-use page::{Open, OpenAnswer};
+use page::Open;
 use reading::Reading;
-use row::FoundAnswer;
 use turns::refusals::{no_refusal, refused_by};
 use turns::types::Screened;
+
+// The list is handed on as a slice with its count: in a struct that holds the slice, each contract names it by its moment and its field
+// (`addresses.entry.words.now`), for one parameter less. That is no plainer.
 
 // Answers the addresses from `at` on that name one cell of a page that is opened, and answers where they end.
 fn in_cell(
@@ -35,26 +37,18 @@ fn in_cell(
     addresses: &[u64],
     answers: &mut [i64],
 ) -> usize
-    requires { Room count addresses.now answers.old × (at < count) }
+    requires room { Room count addresses.now answers.old }
+    requires there { at < count }
     ensures { Turn (CellAnswers (named_page at addresses.now) (named_cell at addresses.now)
         (found_shown reading (named_page at addresses.now) db.now (found_by (located_in guarded opened (named_cell at addresses.now) db.now))))
         count addresses.now at result answers.old answers.new }
 {
-    let found = chosen::found_in(db, guarded, opened, cell_at(addresses, at));
-    match found {
-        FoundAnswer::Refused(refusal) => refused_in(refusal, at, count, addresses, answers),
-        FoundAnswer::Shown(row) => {
-            let cell: cell::Cell = row.cell;
-            let first = row.cursor;
+    match chosen::found_in(db, guarded, opened, cell_at(addresses, at)) {
+        Err(refusal) => refused_in(refusal, at, count, addresses, answers),
+        Ok(row) => {
+            let columns = row.cell.columns;
             in_row(
-                db,
-                reading,
-                first,
-                cell.columns,
-                at,
-                count,
-                addresses,
-                answers,
+                db, reading, row.cursor, columns, at, count, addresses, answers,
             )
         }
     }
@@ -71,7 +65,8 @@ fn on_open(
     addresses: &[u64],
     answers: &mut [i64],
 ) -> usize
-    requires { Room count addresses.now answers.old × (at < count) }
+    requires room { Room count addresses.now answers.old }
+    requires there { at < count }
     ensures { Turn (PageAnswers (named_page at addresses.now)
         (λ i. found_shown reading (named_page at addresses.now) db.now (found_by (located_in guarded opened i db.now))))
         count addresses.now at result answers.old answers.new }
@@ -80,10 +75,7 @@ fn on_open(
     let mut i = at;
     loop {
         i = in_cell(db, reading, guarded, opened, i, count, addresses, answers);
-        if count <= i {
-            return i;
-        }
-        if page_at(addresses, i) != page {
+        if count <= i || page_at(addresses, i) != page {
             return i;
         }
     }
@@ -98,13 +90,13 @@ fn on_page(
     addresses: &[u64],
     answers: &mut [i64],
 ) -> usize
-    requires { Room count addresses.now answers.old × (at < count) }
+    requires room { Room count addresses.now answers.old }
+    requires there { at < count }
     ensures { Turn (Single chosen db.now) count addresses.now at result answers.old answers.new }
 {
-    let opening = chosen::open_page(db, chosen, page_at(addresses, at));
-    match opening {
-        OpenAnswer::Refused(refusal) => refused_in(refusal, at, count, addresses, answers),
-        OpenAnswer::Shown(opened) => on_open(
+    match chosen::open_page(db, chosen, page_at(addresses, at)) {
+        Err(refusal) => refused_in(refusal, at, count, addresses, answers),
+        Ok(opened) => on_open(
             db,
             chosen.reading(),
             chosen.is_guarded(),
@@ -134,6 +126,7 @@ pub fn screen(db: &[u8], chosen: Chosen, addresses: &[u64], answers: &mut [i64])
             count: 0,
         };
     }
+    // A `while`, since each turn tells where the next begins.
     let mut i: usize = 0;
     while i < count {
         i = on_page(db, chosen, i, count, addresses, answers);

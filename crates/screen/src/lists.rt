@@ -9,14 +9,16 @@ use turns::types::Shown;
 
 // How many addresses so many words are.
 pub fn count_of(words: usize) -> usize
-    ensures { (result ≡ words / 3) × (3 * result < 2 ^ 64) }
+    ensures count { result ≡ words / 3 }
+    ensures room { 3 * result < 2 ^ 64 }
 {
     words / 3
 }
 
 // And how many answers.
 pub fn places_of(words: usize) -> usize
-    ensures { (result ≡ words / 8) × (8 * result < 2 ^ 64) }
+    ensures places { result ≡ words / 8 }
+    ensures room { 8 * result < 2 ^ 64 }
 {
     words / 8
 }

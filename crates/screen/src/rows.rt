@@ -4,8 +4,6 @@ ghost use Rattle.serial.specs.Serial.{width_of};
 ghost use Rattle.columns.specs.Columns.{slot_of, behind};
 ghost use Rattle.checked.specs.Whole.{Whole, bytes_in};
 ghost use Rattle.checked.specs.Past.{past_of};
-ghost use Rattle.answers.specs.declared.Reason.TheVariants.{NoSuchColumn};
-ghost use Rattle.answers.specs.declared.Refusal.TheVariants.{OnPage};
 ghost use Rattle.turns.specs.Refusals.{accepted};
 ghost use Rattle.turns.specs.Words.{value_at};
 ghost use Rattle.chosen.specs.Chosen.{refused_shown, slot_shown};
@@ -24,16 +22,13 @@ use varint::Number;
 
 // Whether there is an address `i`, and it names the cell that `at` names.
 fn names_same(addresses: &[u64], count: usize, i: usize, at: usize) -> bool
-    requires { (3 * count ≤ length addresses.now) × (at < count) }
+    requires room { 3 * count ≤ length addresses.now }
+    requires there { at < count }
     ensures { result ≡ same_cell addresses.now count i at }
 {
-    if count <= i {
-        return false;
-    }
-    if page_at(addresses, i) != page_at(addresses, at) {
-        return false;
-    }
-    cell_at(addresses, i) == cell_at(addresses, at)
+    i < count
+        && page_at(addresses, i) == page_at(addresses, at)
+        && cell_at(addresses, i) == cell_at(addresses, at)
 }
 
 fn refused_shown(refusal: Refusal) -> Shown
@@ -45,19 +40,10 @@ fn refused_shown(refusal: Refusal) -> Shown
     }
 }
 
-// What is shown of a column that a row does not have.
-fn none_shown(page: u32) -> Shown
-    ensures { result ≡ refused_shown (OnPage page NoSuchColumn) }
-{
-    refused_shown(Refusal::OnPage {
-        page,
-        reason: Reason::NoSuchColumn,
-    })
-}
-
-// And of one that it has.
+// What is shown of a column that a row has.
 fn value_shown(db: &[u8], reading: Reading, serial: u64, at: usize) -> Shown
-    ensures { (result.refused ≡ accepted) × (result.value ≡ value_at reading serial at db.now) }
+    ensures refused { result.refused ≡ accepted }
+    ensures value { result.value ≡ value_at reading serial at db.now }
 {
     Shown {
         refused: no_refusal(),
@@ -73,7 +59,8 @@ pub fn refused_in(
     addresses: &[u64],
     answers: &mut [i64],
 ) -> usize
-    requires { Room count addresses.now answers.old × (at < count) }
+    requires room { Room count addresses.now answers.old }
+    requires there { at < count }
     ensures { Turn (CellAnswers (named_page at addresses.now) (named_cell at addresses.now) (λ k. refused_shown refusal))
         count addresses.now at result answers.old answers.new }
 {
@@ -93,43 +80,38 @@ fn type_at(db: &[u8], here: Cursor) -> Number
     requires { Coming here db.now }
     ensures { result ≡ type_at here db.now }
 {
-    let at = here.at;
-    let stop = here.stop;
-    let serial = db[at] as u64;
+    let serial = u64::from(db[here.at]);
     if serial < 128 {
         return Number {
             value: serial,
             length: 1,
         };
     }
-    type_in(&db[at..stop])
+    type_in(&db[here.at..here.stop])
 }
 
 // The cursor behind a column of that type.
 fn moved(here: Cursor, serial: Number) -> Cursor
-    requires { (here.at + serial.length < 2 ^ 64) × (here.value + bytes_in (width_of serial.value) < 2 ^ 64) }
+    requires type_ends { here.at + serial.length < 2 ^ 64 }
+    requires value_ends { here.value + bytes_in (width_of serial.value) < 2 ^ 64 }
     ensures { result ≡ behind serial.length (bytes_in (width_of serial.value)) here }
 {
-    let reading = here.reading;
     Cursor {
-        reading,
         at: here.at + serial.length,
-        stop: here.stop,
         value: here.value + width_in(serial.value) as usize,
-        end: here.end,
+        ..here
     }
 }
 
 // The cursor behind `k` columns of a row that was checked.
 fn past(db: &[u8], first: Cursor, columns: usize, k: usize) -> Cursor
-    requires { Whole first columns db.now × (k ≤ columns) }
+    requires whole { Whole first columns db.now }
+    requires there { k ≤ columns }
     ensures { result ≡ past_of k first db.now }
 {
     let mut here = first;
-    let mut n: usize = 0;
-    while n < k {
+    for _passed in 0..k {
         here = moved(here, type_at(db, here));
-        n += 1;
     }
     here
 }
@@ -146,7 +128,9 @@ pub fn in_row(
     addresses: &[u64],
     answers: &mut [i64],
 ) -> usize
-    requires { Whole first columns db.now × Room count addresses.now answers.old × (at < count) }
+    requires whole { Whole first columns db.now }
+    requires room { Room count addresses.now answers.old }
+    requires there { at < count }
     ensures { Turn (CellAnswers (named_page at addresses.now) (named_cell at addresses.now)
         (λ k. slot_shown reading (named_page at addresses.now) db.now (slot_of k first db.now)))
         count addresses.now at result answers.old answers.new }
@@ -166,8 +150,9 @@ pub fn in_row(
             here = moved(here, serial);
             column = k + 1;
         } else {
-            let shown = none_shown(page_at(addresses, at));
-            put(answers, i, shown);
+            let page = page_at(addresses, at);
+            let reason = Reason::NoSuchColumn;
+            put(answers, i, refused_shown(Refusal::OnPage { page, reason }));
         }
         i += 1;
         if !names_same(addresses, count, i, at) {

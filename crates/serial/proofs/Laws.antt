@@ -9,8 +9,8 @@ use borrow.Author.Tests.{lt-ltb, le-ltb, ltb-true, ltb-false, eqb-false}
 use Rattle.laws.specs.Pick.{pick}
 use Rattle.laws.proofs.Never.{never}
 use Rattle.tables.specs.Tables.{widths}
-use Rattle.serial.specs.declared.Width.TheVariants.{Bytes, Reserved}
 use Rattle.serial.specs.Serial.{length_of, width_of}
+use Rattle.std.specs.Prelude.{None, Some}
 
 -- a text's length and a blob's are one sum
 pub length-either : (serial : ℕ) → 12 ≤ serial → (serial - 12) / 2 ≡ length_of serial
@@ -37,20 +37,20 @@ pub no-width : (serial : ℕ) → 10 ≤ serial → get_or widths serial 0 ≡ 0
 no-width serial h = get_or-eq_default widths 0 {n = serial} h
 
 module _ (serial : ℕ) where
-  pub width_small : serial < 10 → width_of serial ≡ Bytes (get_or widths serial 0)
+  pub width_small : serial < 10 → width_of serial ≡ Some (get_or widths serial 0)
   unfolding width_of
   width_small h = rw (lt-ltb serial 10 h)
 
-  pub width-reserved : 10 ≤ serial → serial < 12 → width_of serial ≡ Reserved
+  pub width-reserved : 10 ≤ serial → serial < 12 → width_of serial ≡ None
   unfolding width_of
   width-reserved h k = rw (le-ltb serial 10 h, lt-ltb serial 12 k)
 
-  pub width-long : 12 ≤ serial → width_of serial ≡ Bytes (length_of serial)
+  pub width-long : 12 ≤ serial → width_of serial ≡ Some (length_of serial)
   unfolding width_of
   width-long h = rw (le-ltb serial 10 (omega arith), le-ltb serial 12 h)
 
   -- past the table, a type that has a width is a text or a blob
-  pub width-past : {w : ℕ} → 10 ≤ serial → width_of serial ≡ Bytes w → (12 ≤ serial) × (w ≡ length_of serial)
+  pub width-past : {w : ℕ} → 10 ≤ serial → width_of serial ≡ Some w → (12 ≤ serial) × (w ≡ length_of serial)
   width-past {w} h e = go (ltb serial 12) refl
     where
       go : (b : Bool) → ltb serial 12 ≡ b → (12 ≤ serial) × (w ≡ length_of serial)

@@ -7,25 +7,15 @@
 ghost use Rattle.std.specs.Prelude.{◌≡◌};
 ghost use Rattle.serial.specs.Serial.{width_of};
 
-use tables::{WIDTHS, wide};
-
-#[derive(Clone, Copy)]
-pub enum Width {
-    Bytes(u64),
-    // Types 10 and 11, which no value has.
-    Reserved,
-}
+use tables::WIDTHS;
 
 // How many bytes a value of the type takes. Texts and blobs of one length are neighbours, the blob first.
-pub fn width_of(serial: u64) -> Width
+pub fn width_of(serial: u64) -> Option<u64>
     ensures { result ≡ width_of serial }
 {
-    if serial < 10 {
-        let i = serial as usize;
-        return Width::Bytes(wide(WIDTHS[i]) as u64);
+    match serial {
+        0..=9 => Some(u64::from(WIDTHS[serial as usize])),
+        10 | 11 => None,
+        _ => Some((serial - 12) / 2),
     }
-    if serial < 12 {
-        return Width::Reserved;
-    }
-    Width::Bytes((serial - 12) / 2)
 }

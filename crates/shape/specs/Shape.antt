@@ -4,19 +4,14 @@
 -- File format, 1.3.7 "In-header database size": "the in-header database size is only considered to be valid if it is non-zero
 -- and if the 4-byte change counter at offset 24 exactly matches the 4-byte version-valid-for number at offset 92"; else the
 -- size is that of the file. The Rust never looks at it.
-use Rattle.std.specs.Prelude.{ℕ, min, ◌/◌, List, Bool, not, ◌&&◌, eqb, length}
+use Rattle.std.specs.Prelude.{ℕ, min, ◌/◌, List, Bool, not, ◌&&◌, eqb, length, Err, Ok, Result}
 use Rattle.laws.specs.Pick.{pick}
 use Rattle.reading.specs.declared.Reading.{Reading}
 use Rattle.reading.specs.declared.Reading.TheVariants.{Old as old, File as file}
 use Rattle.answers.specs.declared.Flaw.{Flaw}
-use Rattle.answers.specs.Answer.{Answer, refused, shown}
 use Rattle.header.specs.declared.Sizes.{Sizes}
-use Rattle.header.specs.declared.SizesAnswer.{SizesAnswer}
-use Rattle.header.specs.declared.SizesAnswer.TheVariants as si
 use Rattle.header.specs.Header.{sizes_of}
 use Rattle.shape.specs.declared.Shape.{Shape}
-use Rattle.shape.specs.declared.ShapeAnswer.{ShapeAnswer}
-use Rattle.shape.specs.declared.ShapeAnswer.TheVariants as sh
 
 -- as many as fit in so many bytes; of pages with no bytes none is counted
 abbrev pub whole_pages : ℕ → ℕ → ℕ
@@ -35,14 +30,9 @@ abbrev pub shape_with : Reading → ℕ → Sizes → Shape
 shape_with r whole s =
     record { page_size = s.page_size; end = s.end; pages = count_of r whole s; present = min (count_of r whole s) whole }
 
-abbrev pub shape_by : Reading → ℕ → SizesAnswer → Answer Flaw Shape
-shape_by r bytes (si.Refused flaw) = refused flaw
-shape_by r bytes (si.Shown s) = shown (shape_with r (whole_pages bytes s.page_size) s)
+abbrev pub shape_by : Reading → ℕ → Result Sizes Flaw → Result Shape Flaw
+shape_by r bytes (Err flaw) = Err flaw
+shape_by r bytes (Ok s) = Ok (shape_with r (whole_pages bytes s.page_size) s)
 
-unfoldable pub shape_of : Reading → List ℕ → Answer Flaw Shape
+unfoldable pub shape_of : Reading → List ℕ → Result Shape Flaw
 shape_of r db = shape_by r (length db) (sizes_of r db)
-
--- as the code has it
-abbrev pub shape_answer : Answer Flaw Shape → ShapeAnswer
-shape_answer (refused flaw) = sh.Refused flaw
-shape_answer (shown shape) = sh.Shown shape

@@ -6,15 +6,14 @@
 #![tactic(auto)]
 
 ghost use Rattle.std.specs.Prelude.{◌≡◌};
-ghost use Rattle.shape.specs.Shape.{whole_pages, stated, count_of, shape_of, shape_answer};
+ghost use Rattle.shape.specs.Shape.{whole_pages, stated, count_of, shape_of};
 
 use answers::Flaw;
-use header::{Sizes, SizesAnswer};
-use parts::least;
+use header::Sizes;
 use reading::Reading;
 
 // What the pages of a file have in common.
-#[derive(Clone, Copy)]
+#[derive(Clone, Copy, Debug, PartialEq, Eq)]
 pub struct Shape {
     pub page_size: u32,
     // Where the cells of a page end: its size, or in the file reading that less the reserved space.
@@ -25,30 +24,18 @@ pub struct Shape {
     pub present: usize,
 }
 
-#[derive(Clone, Copy)]
-pub enum ShapeAnswer {
-    Shown(Shape),
-    Refused(Flaw),
-}
-
 // As many as fit in the bytes; of pages with no bytes none is counted.
 fn whole_pages(bytes: usize, size: u32) -> usize
     ensures { result ≡ whole_pages bytes size }
 {
-    if size == 0 {
-        return 0;
-    }
-    bytes / (size as usize)
+    bytes.checked_div(size as usize).unwrap_or(0)
 }
 
 // Whether the size that the header states was written with the last change.
 fn is_stated(sizes: Sizes) -> bool
     ensures { result ≡ stated sizes }
 {
-    if sizes.db_size == 0 {
-        return false;
-    }
-    sizes.file_change_counter == sizes.version_valid_for_no
+    sizes.db_size != 0 && sizes.file_change_counter == sizes.version_valid_for_no
 }
 
 // How many pages there are, of which so many fit in the bytes.
@@ -59,29 +46,25 @@ fn count_of(reading: Reading, whole: usize, sizes: Sizes) -> usize
         Reading::Old => whole,
         Reading::File => {
             if is_stated(sizes) {
-                return sizes.db_size as usize;
+                sizes.db_size as usize
+            } else {
+                whole
             }
-            whole
         }
     }
 }
 
 // The checks of the header, and then the shape of the pages.
-pub fn shape_of(db: &[u8], reading: Reading) -> ShapeAnswer
-    ensures { result ≡ shape_answer (shape_of reading db.now) }
+pub fn shape_of(db: &[u8], reading: Reading) -> Result<Shape, Flaw>
+    ensures { result ≡ shape_of reading db.now }
 {
-    let sized = header::sizes_of(db, reading);
-    match sized {
-        SizesAnswer::Refused(flaw) => ShapeAnswer::Refused(flaw),
-        SizesAnswer::Shown(sizes) => {
-            let whole = whole_pages(db.len(), sizes.page_size);
-            let pages = count_of(reading, whole, sizes);
-            ShapeAnswer::Shown(Shape {
-                page_size: sizes.page_size,
-                end: sizes.end,
-                pages,
-                present: least(pages, whole),
-            })
-        }
-    }
+    let sizes = header::sizes_of(db, reading)?;
+    let whole = whole_pages(db.len(), sizes.page_size);
+    let pages = count_of(reading, whole, sizes);
+    Ok(Shape {
+        page_size: sizes.page_size,
+        end: sizes.end,
+        pages,
+        present: pages.min(whole),
+    })
 }

@@ -9,7 +9,6 @@ use lib.ListN.{length}
 use borrow.Author.Tests.{lt-ltb, ltb-true, ltb-false}
 use Rattle.laws.proofs.Powers.{digits-within}
 use Rattle.varint.specs.declared.Number.{Number}
-use Rattle.varint.specs.declared.Varint.TheVariants.{Value}
 use Rattle.varint.specs.Varint.{varint_of}
 use Rattle.varint.proofs.Laws.{length-bounds, shorter-limit, value-below, same_number}
 use Rattle.shortest.specs.Shortest.{encode, shortest}
@@ -17,6 +16,7 @@ use Rattle.shortest.specs.Forms.{NoShorter, OneByte, FiveAsNine}
 use Rattle.shortest.proofs.Digits.{digits-most, digits-fewest, digit-less}
 use Rattle.shortest.proofs.Laws.{by_size, length-below, length_above, shortest-one, shortest-length, longer-length}
 use Rattle.shortest.proofs.Written.{encode-found}
+use Rattle.std.specs.Prelude.{Ok}
 
 -- nine bytes at most are written, and fewer only below 2 ^ 56
 length-nine : (v : ℕ) → (length (encode v) ≤ 9) × (length (encode v) < 9 → v < 2 ^ 56)
@@ -33,7 +33,7 @@ length-fewest (suc n) v h l b =
     let d = digits-fewest 7 n (v / 128) (digit-less n v b) in
     omega arith
 
-module _ (s : List ℕ) (n : Number) (e : varint_of 9 s ≡ Value n) where
+module _ (s : List ℕ) (n : Number) (e : varint_of 9 s ≡ Ok n) where
   pub encode-fewest : length (encode n.value) ≤ n.length
   encode-fewest = go (ltb n.length 9) refl
     where

@@ -10,7 +10,6 @@ use lib.ListN.{length, take}
 use borrow.Author.Tests.{ne_eqb}
 use Rattle.laws.specs.Pick.{pick}
 use Rattle.varint.specs.declared.Number.{Number}
-use Rattle.varint.specs.declared.Varint.TheVariants.{Value}
 use Rattle.varint.specs.Varint.{varint_of}
 use Rattle.varint.proofs.Found.{Reads, ninth, last, next, found}
 use Rattle.shortest.specs.Shortest.{digits, sevens, encode}
@@ -19,6 +18,7 @@ use Rattle.shortest.proofs.Digits.{digits-most}
 use Rattle.shortest.proofs.Laws.{by_size, encode-below, encode-above, length-below, length_above, shortest-length, is-shortest}
 use Rattle.shortest.proofs.Bytes.{bytes-encode}
 use Rattle.shortest.proofs.Written.{encode-found}
+use Rattle.std.specs.Prelude.{Ok}
 
 -- the form of n bytes that v has
 abbrev form : ℕ → ℕ → List ℕ
@@ -56,7 +56,7 @@ put-together {x} bytes (next {n = n} {v} {b} {s} h c r) =
     (sevens-next n (v * 128 + b % 128) v b (take (x.length - (n + 1)) s) (omega arith) (omega arith)
     ∙ put-together (λ i. bytes (suc i)) r)
 
-read-form : (s : List ℕ) (n : Number) → Bytes s → varint_of 9 s ≡ Value n → take n.length s ≡ form n.length n.value
+read-form : (s : List ℕ) (n : Number) → Bytes s → varint_of 9 s ≡ Ok n → take n.length s ≡ form n.length n.value
 unfolding sevens
 read-form s n bytes e = let p = put-together {n = 0} bytes (found 9 0 0 s e) in rw sub-zero at p
 

@@ -5,7 +5,6 @@ use mathlib.Core.List.{List, [], ◌∷◌, ◌++◌}
 use native.Mathlib.Numerals.{add-one}
 use native.Mathlib.Omega.{arith}
 use Rattle.varint.specs.declared.Number.{Number}
-use Rattle.varint.specs.declared.Varint.TheVariants.{Value}
 use Rattle.varint.specs.Varint.{number, varint_of}
 use Rattle.varint.proofs.Found.{Reads, ninth, last, next, is_found}
 use Rattle.varint.proofs.Laws.{bytes-behind, shorter-limit}
@@ -13,6 +12,7 @@ use Rattle.shortest.specs.Shortest.{digits, sevens, encode}
 use Rattle.shortest.specs.Forms.{written, ReadAfterWrite}
 use Rattle.shortest.proofs.Digits.{digits-most, digits-hold, digit-less}
 use Rattle.shortest.proofs.Laws.{by_size, encode-below, encode-above, length-below, length_above}
+use Rattle.std.specs.Prelude.{Ok}
 
 before-ninth : (n : ℕ) → n < 8 → n ≡ 8 → ⊥
 before-ninth n l e = omega arith
@@ -28,7 +28,7 @@ sevens-found {x} (suc n) v s l h r =
     (rw k (next {b = 128 + v % 128} (before-ninth n (omega arith)) (omega arith) on))
 
 -- of at most seven digits and a last byte
-below-found : (v : ℕ) → v < 2 ^ 56 → varint_of 9 (encode v) ≡ Value (written v)
+below-found : (v : ℕ) → v < 2 ^ 56 → varint_of 9 (encode v) ≡ Ok (written v)
 below-found v h =
     let n : ℕ = digits 7 (v / 128) in
     let l : n ≤ 7 = digits-most 7 (v / 128) in
@@ -39,13 +39,13 @@ below-found v h =
     (rw k (last {b = v % 128} (before-ninth n (omega arith)) (omega arith) (ap (λ w. number w (n + 1)) e)))))
 
 -- of eight digits and a byte
-above-found : (v : ℕ) → 2 ^ 56 ≤ v → v < 2 ^ 64 → varint_of 9 (encode v) ≡ Value (written v)
+above-found : (v : ℕ) → 2 ^ 56 ≤ v → v < 2 ^ 64 → varint_of 9 (encode v) ≡ Ok (written v)
 above-found v h l =
     let e : v / 256 * 256 + v % 256 ≡ v = omega arith in
     rw (length_above v h, encode-above v h)
     (is_found (sevens-found 8 (v / 256) ((v % 256) ∷ []) (omega arith) (omega arith) (ninth refl (ap (λ w. number w 9) e))))
 
-pub encode-found : (v : ℕ) → v < 2 ^ 64 → varint_of 9 (encode v) ≡ Value (written v)
+pub encode-found : (v : ℕ) → v < 2 ^ 64 → varint_of 9 (encode v) ≡ Ok (written v)
 encode-found v l = by_size v (below-found v) (λ h. above-found v h l)
 
 pub read-after-write : ReadAfterWrite

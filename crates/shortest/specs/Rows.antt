@@ -1,6 +1,5 @@
 -- Shortest forms worked by hand, at the ends of one, two, eight and nine bytes.
-use Rattle.std.specs.Prelude.{ℕ, ◌-◌, ◌^◌, ◌≡◌, List, [], ◌∷◌, map, false}
-use Rattle.varint.specs.declared.Varint.TheVariants.{Value}
+use Rattle.std.specs.Prelude.{ℕ, ◌-◌, ◌^◌, ◌≡◌, List, [], ◌∷◌, map, false, Ok}
 use Rattle.varint.specs.Varint.{number, varint_of}
 use Rattle.shortest.specs.Shortest.{encode, shortest}
 
@@ -31,4 +30,4 @@ abbrev pub spare : List ℕ
 spare = 0x80 ∷ 0xbf ∷ 0xff ∷ 0xff ∷ 0xff ∷ 0xff ∷ 0xff ∷ 0xff ∷ 0xff ∷ []
 
 abbrev pub SpareWorked : Type 0
-SpareWorked = (varint_of 9 spare ≡ Value (number (2 ^ 56 - 1) 9)) × (shortest (number (2 ^ 56 - 1) 9) ≡ false)
+SpareWorked = (varint_of 9 spare ≡ Ok (number (2 ^ 56 - 1) 9)) × (shortest (number (2 ^ 56 - 1) 9) ≡ false)

@@ -9,6 +9,9 @@ ghost use Rattle.shortest.specs.Shortest.{encode, shortest};
 
 use varint::Number;
 
+// The least value that takes nine bytes.
+const NINE_BYTES: u64 = 1 << 56;
+
 // Whether the number took as few bytes as any form of its value. Most varints are one byte, which is looked at first.
 pub fn is_shortest(number: Number) -> bool
     ensures { result ≡ shortest number }
@@ -23,13 +26,13 @@ pub fn is_shortest(number: Number) -> bool
 fn length_of(value: u64) -> usize
     ensures { result ≡ length (encode value) }
 {
-    if 72_057_594_037_927_936 <= value {
+    if NINE_BYTES <= value {
         return 9;
     }
     let mut front = value / 128;
     let mut n: usize = 1;
     while front != 0 {
-        front = front / 128;
+        front /= 128;
         n += 1;
     }
     n

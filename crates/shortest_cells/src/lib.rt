@@ -6,32 +6,25 @@ ghost use Rattle.record.specs.Types.{types_of};
 ghost use Rattle.shortest_cells.specs.Cells.{each_shortest, taken_shortest, told_shortest};
 
 use cell::Cell;
-use varint::{Number, Varint};
+use varint::Number;
 
 // A number that a cell's kind lacks took no byte.
 fn taken_shortest(number: Number) -> bool
     ensures { result ≡ taken_shortest number }
 {
-    if number.length == 0 {
-        return true;
-    }
-    shortest::is_shortest(number)
+    number.length == 0 || shortest::is_shortest(number)
 }
 
 // The types of a record, up to one that has no end.
 fn each_shortest(types: &[u8], limit: usize) -> bool
     ensures { result ≡ each_shortest (types_of limit types.now) }
 {
-    let mut at: usize = 0;
-    while at < types.len() {
-        let v = varint::read(&types[at..], limit);
-        let Varint::Value(serial) = v else {
-            return true;
-        };
+    let mut rest = types;
+    while let Ok(serial) = varint::read(rest, limit) {
         if !shortest::is_shortest(serial) {
             return false;
         }
-        at += serial.length;
+        rest = &rest[serial.length..];
     }
     true
 }
@@ -40,18 +33,9 @@ fn each_shortest(types: &[u8], limit: usize) -> bool
 pub fn all_shortest(cell: Cell, types: &[u8], limit: usize) -> bool
     ensures { result ≡ told_shortest cell (types_of limit types.now) }
 {
-    let numbers = cell.numbers;
-    if !taken_shortest(numbers.size) {
-        return false;
-    }
-    if !taken_shortest(numbers.key) {
-        return false;
-    }
-    if !taken_shortest(cell.header) {
-        return false;
-    }
-    if !taken_shortest(cell.row) {
-        return false;
-    }
-    each_shortest(types, limit)
+    taken_shortest(cell.numbers.size)
+        && taken_shortest(cell.numbers.key)
+        && taken_shortest(cell.header)
+        && taken_shortest(cell.row)
+        && each_shortest(types, limit)
 }

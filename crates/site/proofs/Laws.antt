@@ -2,16 +2,14 @@
 use mathlib.Core.Path.{◌≡◌}
 use Rattle.laws.proofs.Never.{never}
 use Rattle.answers.specs.declared.Refusal.{Refusal}
-use Rattle.answers.specs.Answer.{Answer, refused, shown}
 use Rattle.site.specs.declared.Site.{Site}
-use Rattle.site.specs.declared.SiteAnswer.TheVariants as sa
-use Rattle.site.specs.Site.{site_answer}
+use Rattle.std.specs.Prelude.{Err, Ok, Result}
 
 -- the code's answer is the definition's
-pub site-answered : (x : Answer Refusal Site) {s : Site} → site_answer x ≡ sa.Shown s → x ≡ shown s
-site-answered (refused refusal) e = never cc
-site-answered (shown s) e = cc
+pub site-answered : (x : Result Site Refusal) {s : Site} → x ≡ Ok s → x ≡ Ok s
+site-answered (Err refusal) e = never cc
+site-answered (Ok s) e = cc
 
-pub site-unanswered : (x : Answer Refusal Site) {refusal : Refusal} → site_answer x ≡ sa.Refused refusal → x ≡ refused refusal
-site-unanswered (refused other) e = cc
-site-unanswered (shown s) e = never cc
+pub site-unanswered : (x : Result Site Refusal) {refusal : Refusal} → x ≡ Err refusal → x ≡ Err refusal
+site-unanswered (Err other) e = cc
+site-unanswered (Ok s) e = never cc

@@ -5,30 +5,13 @@ ghost use Rattle.std.specs.Prelude.{◌≡◌};
 ghost use Rattle.sound.specs.Cells.{cells_from};
 
 use answers::Refusal;
-use cells::LocatedAnswer;
 use page::Open;
 
-#[derive(Clone, Copy)]
-pub enum CellsAnswer {
-    Sound,
-    Refused(Refusal),
-}
-
-pub fn check_cells(db: &[u8], opened: Open) -> CellsAnswer
+pub fn check_cells(db: &[u8], opened: Open) -> Result<(), Refusal>
     ensures { result ≡ cells_from opened db.now 0 opened.cells }
 {
-    let cells = opened.cells;
-    let mut i: usize = 0;
-    while i < cells {
-        let located = cells::cell_in(db, opened, i);
-        match located {
-            LocatedAnswer::Shown(_) => {
-                i += 1;
-            }
-            LocatedAnswer::Refused(refusal) => {
-                return CellsAnswer::Refused(refusal);
-            }
-        }
+    for i in 0..opened.cells {
+        cells::cell_in(db, opened, i)?;
     }
-    CellsAnswer::Sound
+    Ok(())
 }

@@ -4,6 +4,8 @@
 ghost use Rattle.std.specs.Prelude.{◌≡◌};
 ghost use Rattle.sources.specs.Lent.{source_of, lent_row, lent_shown};
 
+use answers::Refusal;
+use spilled::ValueIn;
 use spills::Source;
 use turns::refusals::{no_refusal, refused_by};
 use turns::shown::{empty_value, file_value};
@@ -27,16 +29,16 @@ pub fn lent_row(row: Row, source: Source) -> LentRow
     }
 }
 
-pub fn lent_shown(answer: spilled::ValueAnswer) -> LentValue
+pub fn lent_shown(answer: Result<ValueIn, Refusal>) -> LentValue
     ensures { result ≡ lent_shown answer }
 {
     match answer {
-        spilled::ValueAnswer::Refused(refusal) => LentValue {
+        Err(refusal) => LentValue {
             refused: refused_by(refusal),
             value: empty_value(),
             source: 0,
         },
-        spilled::ValueAnswer::Shown { value, source } => LentValue {
+        Ok(ValueIn { value, source }) => LentValue {
             refused: no_refusal(),
             value: file_value(value),
             source: source_of(source),

@@ -10,7 +10,7 @@ use Rattle.laws.proofs.Never.{never}
 use Rattle.reading.specs.declared.Reading.TheVariants.{File as file}
 use Rattle.answers.specs.declared.Fault.{Fault}
 use Rattle.answers.specs.declared.Refusal.{Refusal}
-use Rattle.answers.specs.Answer.{Answer, refused, shown, ◌>>=◌}
+use Rattle.answers.specs.Answer.{◌>>=◌}
 use Rattle.record.specs.Record.{Record, record_of}
 use Rattle.cell.specs.declared.Numbers.{Numbers}
 use Rattle.cell.proofs.Inside.{Held, record-held}
@@ -24,6 +24,7 @@ use Rattle.chain.specs.Gathered.{Gathered, gathered_in, buffer_by}
 use Rattle.chain.proofs.Laws.{gathered-numbers}
 use Rattle.spilled.specs.Lent.{Spilled, whole, gathered, cell_with, recorded_in, spilled_in, instead, buffer_after, lent_in, buffer_in, lent_of, buffer_on, buffer_of}
 use Rattle.spills.specs.Spills.{spills}
+use Rattle.std.specs.Prelude.{Err, Ok, Result}
 
 -- what is so of a spilled cell: its record, and the buffer that held b
 pub record Got (c : Spilled) (after b : List ℕ) : Type 0 where
@@ -31,31 +32,31 @@ pub record Got (c : Spilled) (after b : List ℕ) : Type 0 where
   pub size : length c.payload ≡ c.cell.payload
   pub buffer : after ≡ c.payload ++ drop (length c.payload) b
 
-recorded-held : (page : Page) (i : ℕ) (g : Gathered) {c : Spilled} → recorded_in page i g ≡ shown c
+recorded-held : (page : Page) (i : ℕ) (g : Gathered) {c : Spilled} → recorded_in page i g ≡ Ok c
     → (c.payload ≡ g.payload) × (length c.payload ≡ c.cell.payload) × Held file c.payload c.cell
 recorded-held page i g {c} e = go (record_of file g.payload) refl e
   where
-    go : (x : Answer Fault Record) → record_of file g.payload ≡ x
-        → (in_cell page i x >>= (λ r. shown (record { page = page; cell = cell_with g r; payload = g.payload }))) ≡ shown c
+    go : (x : Result Record Fault) → record_of file g.payload ≡ x
+        → (in_cell page i x >>= (λ r. Ok (record { page = page; cell = cell_with g r; payload = g.payload }))) ≡ Ok c
         → (c.payload ≡ g.payload) × (length c.payload ≡ c.cell.payload) × Held file c.payload c.cell
-    go (refused fault) q d = never cc
-    go (shown r) q d =
+    go (Err fault) q d = never cc
+    go (Ok r) q d =
         let f : record { page = page; cell = cell_with g r; payload = g.payload } ≡ c = cc in
         rw (← f) (refl, refl, record-held file g.payload (cell_with g r) refl q)
 
-took : {c : Spilled} (x : Answer Refusal Spilled) → (x >>= (λ d. shown (gathered d))) ≡ shown (gathered c) → x ≡ shown c
-took (refused refusal) d = never cc
-took (shown d) f = cc
+took : {c : Spilled} (x : Result Spilled Refusal) → (x >>= (λ d. Ok (gathered d))) ≡ Ok (gathered c) → x ≡ Ok c
+took (Err refusal) d = never cc
+took (Ok d) f = cc
 
 -- what it tells of the cell
-recorded-told : (page : Page) (i : ℕ) (g : Gathered) {c : Spilled} → recorded_in page i g ≡ shown c
+recorded-told : (page : Page) (i : ℕ) (g : Gathered) {c : Spilled} → recorded_in page i g ≡ Ok c
     → (c.page ≡ page) × (c.cell.numbers ≡ g.numbers) × (c.cell.row ≡ g.numbers.key)
 recorded-told page i g {c} e = go (record_of file g.payload) e
   where
-    go : (x : Answer Fault Record) → (in_cell page i x >>= (λ r. shown (record { page = page; cell = cell_with g r; payload = g.payload }))) ≡ shown c
+    go : (x : Result Record Fault) → (in_cell page i x >>= (λ r. Ok (record { page = page; cell = cell_with g r; payload = g.payload }))) ≡ Ok c
         → (c.page ≡ page) × (c.cell.numbers ≡ g.numbers) × (c.cell.row ≡ g.numbers.key)
-    go (refused fault) d = never cc
-    go (shown r) d =
+    go (Err fault) d = never cc
+    go (Ok r) d =
         let f : record { page = page; cell = cell_with g r; payload = g.payload } ≡ c = cc in
         rw (← f) (refl, refl, refl)
 
@@ -63,72 +64,72 @@ module _ (o : Open) (i room : ℕ) (db : List ℕ) where
   -- it is told of its page, and has the numbers that stand there
   pub record Told (c : Spilled) : Type 0 where
     pub page : c.page ≡ o.page
-    pub numbers : numbers_in o i db ≡ shown c.cell.numbers
+    pub numbers : numbers_in o i db ≡ Ok c.cell.numbers
     pub row : c.cell.row ≡ c.cell.numbers.key
 
-  pub spilled-told : {c : Spilled} → spilled_in o i room db ≡ shown c → Told c
+  pub spilled-told : {c : Spilled} → spilled_in o i room db ≡ Ok c → Told c
   unfolding spilled_in
   spilled-told {c} e = go (gathered_in o i room db) refl e
     where
-      go : (x : Answer Refusal Gathered) → gathered_in o i room db ≡ x → (x >>= recorded_in o.page i) ≡ shown c → Told c
-      go (refused refusal) q d = never cc
-      go (shown g) q d =
+      go : (x : Result Gathered Refusal) → gathered_in o i room db ≡ x → (x >>= recorded_in o.page i) ≡ Ok c → Told c
+      go (Err refusal) q d = never cc
+      go (Ok g) q d =
           let r = recorded-told o.page i g d in
           record {
             page = r.0;
-            numbers = gathered-numbers o i room db q ∙ ap shown (sym r.1);
+            numbers = gathered-numbers o i room db q ∙ ap Ok (sym r.1);
             row = r.2 ∙ ap (λ (n : Numbers). n.key) (sym r.1);
           }
 
-  pub lent-told : {c : Spilled} → lent_in o i room db ≡ shown (gathered c) → Told c
+  pub lent-told : {c : Spilled} → lent_in o i room db ≡ Ok (gathered c) → Told c
   unfolding lent_in
   lent-told {c} e = go (located_in o i db) e
     where
-      go : (x : Answer Refusal Located) → instead whole (spilled_in o i room db >>= (λ d. shown (gathered d))) x ≡ shown (gathered c) → Told c
-      go (shown l) d = never cc
-      go (refused refusal) d = by (spills refusal) d
+      go : (x : Result Located Refusal) → instead whole (spilled_in o i room db >>= (λ d. Ok (gathered d))) x ≡ Ok (gathered c) → Told c
+      go (Ok l) d = never cc
+      go (Err refusal) d = by (spills refusal) d
         where
-          by : (t : Bool) → pick t (spilled_in o i room db >>= (λ d. shown (gathered d))) (refused refusal) ≡ shown (gathered c) → Told c
+          by : (t : Bool) → pick t (spilled_in o i room db >>= (λ d. Ok (gathered d))) (Err refusal) ≡ Ok (gathered c) → Told c
           by true f = spilled-told (took (spilled_in o i room db) f)
           by false f = never cc
 
 module _ (o : Open) (i : ℕ) (db b : List ℕ) where
-  pub spilled-got : {c : Spilled} → spilled_in o i (length b) db ≡ shown c → Got c (buffer_by (gathered_in o i (length b) db) b) b
+  pub spilled-got : {c : Spilled} → spilled_in o i (length b) db ≡ Ok c → Got c (buffer_by (gathered_in o i (length b) db) b) b
   unfolding spilled_in
   spilled-got {c} e = go (gathered_in o i (length b) db) e
     where
-      go : (x : Answer Refusal Gathered) → (x >>= recorded_in o.page i) ≡ shown c → Got c (buffer_by x b) b
-      go (refused refusal) d = never cc
-      go (shown g) d =
+      go : (x : Result Gathered Refusal) → (x >>= recorded_in o.page i) ≡ Ok c → Got c (buffer_by x b) b
+      go (Err refusal) d = never cc
+      go (Ok g) d =
           let h = recorded-held o.page i g d in
           record { held = h.2; size = h.1; buffer = rw h.0 }
 
-  pub lent-located : (room : ℕ) {l : Located} → lent_in o i room db ≡ shown (whole l) → located_in o i db ≡ shown l
+  pub lent-located : (room : ℕ) {l : Located} → lent_in o i room db ≡ Ok (whole l) → located_in o i db ≡ Ok l
   unfolding lent_in
   lent-located room {l} e = go (located_in o i db) e
     where
-      not-whole : {A : Type 0} (x : Answer Refusal Spilled) → (x >>= (λ c. shown (gathered c))) ≡ shown (whole l) → A
-      not-whole (refused refusal) d = never cc
-      not-whole (shown c) d = never cc
+      not-whole : {A : Type 0} (x : Result Spilled Refusal) → (x >>= (λ c. Ok (gathered c))) ≡ Ok (whole l) → A
+      not-whole (Err refusal) d = never cc
+      not-whole (Ok c) d = never cc
 
-      go : (x : Answer Refusal Located) → instead whole (spilled_in o i room db >>= (λ c. shown (gathered c))) x ≡ shown (whole l) → x ≡ shown l
-      go (shown k) d = cc
-      go (refused refusal) d = by (spills refusal) d
+      go : (x : Result Located Refusal) → instead whole (spilled_in o i room db >>= (λ c. Ok (gathered c))) x ≡ Ok (whole l) → x ≡ Ok l
+      go (Ok k) d = cc
+      go (Err refusal) d = by (spills refusal) d
         where
-          by : (t : Bool) → pick t (spilled_in o i room db >>= (λ c. shown (gathered c))) (refused refusal) ≡ shown (whole l) → refused refusal ≡ shown l
+          by : (t : Bool) → pick t (spilled_in o i room db >>= (λ c. Ok (gathered c))) (Err refusal) ≡ Ok (whole l) → Err refusal ≡ Ok l
           by true f = not-whole (spilled_in o i room db) f
           by false f = never cc
 
-  pub lent-got : {c : Spilled} → lent_in o i (length b) db ≡ shown (gathered c) → Got c (buffer_in o i db b) b
+  pub lent-got : {c : Spilled} → lent_in o i (length b) db ≡ Ok (gathered c) → Got c (buffer_in o i db b) b
   unfolding lent_in buffer_in
   lent-got {c} e = go (located_in o i db) e
     where
-      go : (x : Answer Refusal Located) → instead whole (spilled_in o i (length b) db >>= (λ d. shown (gathered d))) x ≡ shown (gathered c)
+      go : (x : Result Located Refusal) → instead whole (spilled_in o i (length b) db >>= (λ d. Ok (gathered d))) x ≡ Ok (gathered c)
           → Got c (buffer_after x (gathered_in o i (length b) db) b) b
-      go (shown l) d = never cc
-      go (refused refusal) d = by (spills refusal) d
+      go (Ok l) d = never cc
+      go (Err refusal) d = by (spills refusal) d
         where
-          by : (t : Bool) → pick t (spilled_in o i (length b) db >>= (λ d. shown (gathered d))) (refused refusal) ≡ shown (gathered c)
+          by : (t : Bool) → pick t (spilled_in o i (length b) db >>= (λ d. Ok (gathered d))) (Err refusal) ≡ Ok (gathered c)
               → Got c (pick t (buffer_by (gathered_in o i (length b) db) b) b) b
           by true f = spilled-got (took (spilled_in o i (length b) db) f)
           by false f = never cc
@@ -136,42 +137,42 @@ module _ (o : Open) (i : ℕ) (db b : List ℕ) where
 -- of a page that is opened first
 
 module _ (page : Page) (i : ℕ) (db b : List ℕ) where
-  pub of-located : (room : ℕ) {l : Located} → lent_of page i room db ≡ shown (whole l) → located_of page i db ≡ shown l
+  pub of-located : (room : ℕ) {l : Located} → lent_of page i room db ≡ Ok (whole l) → located_of page i db ≡ Ok l
   unfolding lent_of
   of-located room {l} e = go (open_of page db) refl e
     where
-      go : (x : Answer Refusal Open) → open_of page db ≡ x → (x >>= (λ o. lent_in o i room db)) ≡ shown (whole l) → located_of page i db ≡ shown l
-      go (refused refusal) q d = never cc
-      go (shown o) q d = located-open page i db q ∙ lent-located o i db b room d
+      go : (x : Result Open Refusal) → open_of page db ≡ x → (x >>= (λ o. lent_in o i room db)) ≡ Ok (whole l) → located_of page i db ≡ Ok l
+      go (Err refusal) q d = never cc
+      go (Ok o) q d = located-open page i db q ∙ lent-located o i db b room d
 
-  pub of-got : {c : Spilled} → lent_of page i (length b) db ≡ shown (gathered c) → Got c (buffer_of page i db b) b
+  pub of-got : {c : Spilled} → lent_of page i (length b) db ≡ Ok (gathered c) → Got c (buffer_of page i db b) b
   unfolding lent_of buffer_of
   of-got {c} e = go (open_of page db) e
     where
-      go : (x : Answer Refusal Open) → (x >>= (λ o. lent_in o i (length b) db)) ≡ shown (gathered c) → Got c (buffer_on x i db b) b
-      go (refused refusal) d = never cc
-      go (shown o) d = lent-got o i db b d
+      go : (x : Result Open Refusal) → (x >>= (λ o. lent_in o i (length b) db)) ≡ Ok (gathered c) → Got c (buffer_on x i db b) b
+      go (Err refusal) d = never cc
+      go (Ok o) d = lent-got o i db b d
 
 -- BY WHAT IS FOUND WITH NO BUFFER
 
 module _ (o : Open) (i room : ℕ) (db : List ℕ) where
-  pub lent-instead : lent_in o i room db ≡ instead whole (spilled_in o i room db >>= (λ c. shown (gathered c))) (located_in o i db)
+  pub lent-instead : lent_in o i room db ≡ instead whole (spilled_in o i room db >>= (λ c. Ok (gathered c))) (located_in o i db)
   unfolding lent_in
   lent-instead = refl
 
-  pub lent-whole : {l : Located} → located_in o i db ≡ shown l → lent_in o i room db ≡ shown (whole l)
+  pub lent-whole : {l : Located} → located_in o i db ≡ Ok l → lent_in o i room db ≡ Ok (whole l)
   unfolding lent_in
   lent-whole e = rw e
 
-  pub lent-refused : {refusal : Refusal} → located_in o i db ≡ refused refusal → spills refusal ≡ false → lent_in o i room db ≡ refused refusal
+  pub lent-refused : {refusal : Refusal} → located_in o i db ≡ Err refusal → spills refusal ≡ false → lent_in o i room db ≡ Err refusal
   unfolding lent_in
   lent-refused e t = rw (e, t)
 
 module _ (page : Page) (i room : ℕ) (db : List ℕ) where
-  pub lent-open : {o : Open} → open_of page db ≡ shown o → lent_of page i room db ≡ lent_in o i room db
+  pub lent-open : {o : Open} → open_of page db ≡ Ok o → lent_of page i room db ≡ lent_in o i room db
   unfolding lent_of
   lent-open e = rw e
 
-  pub lent-unopened : {refusal : Refusal} → open_of page db ≡ refused refusal → lent_of page i room db ≡ refused refusal
+  pub lent-unopened : {refusal : Refusal} → open_of page db ≡ Err refusal → lent_of page i room db ≡ Err refusal
   unfolding lent_of
   lent-unopened e = rw e

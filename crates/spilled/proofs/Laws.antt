@@ -1,4 +1,4 @@
--- What is found in 18's place, from the code's answers to the definitions'.
+-- A spilled cell, from the code's answers to the definition's.
 use Prim.Native.Nat.{ℕ}
 use mathlib.Core.Path.{◌≡◌, refl}
 use mathlib.Core.List.{List}
@@ -6,52 +6,28 @@ use lib.ListN.{length, take, drop}
 use lib.Seq.{take-append_seam}
 use Rattle.laws.proofs.Never.{never}
 use Rattle.answers.specs.declared.Refusal.{Refusal}
-use Rattle.answers.specs.Answer.{Answer, refused, shown, ◌>>=◌}
+use Rattle.answers.specs.Answer.{◌>>=◌}
 use Rattle.cell.specs.declared.Numbers.{Numbers}
-use Rattle.place.specs.declared.Page.{Page}
-use Rattle.cells.specs.Located.{Located}
-use Rattle.chain.specs.declared.GatherAnswer.TheVariants as ga
-use Rattle.chain.specs.Gathered.{Gathered, buffer_by, gather_answer}
-use Rattle.row.specs.declared.FoundCell.{FoundCell}
-use Rattle.row.specs.declared.FoundAnswer.TheVariants as fo
-use Rattle.row.specs.Found.{found_by}
-use Rattle.spills.specs.declared.Source.TheVariants.{Database}
-use Rattle.spilled.specs.declared.LentAnswer.TheVariants as le
-use Rattle.spilled.specs.Lent.{Spilled, Lent, whole, gathered, recorded_in, instead, buffer_after, gathered_by, lent_by}
-use Rattle.spilled.specs.Steps.{recorded_by}
+use Rattle.chain.specs.Gathered.{Gathered, gathered_with, buffer_by, gather_answer}
+use Rattle.chain.proofs.Laws.{given-numbers}
+use Rattle.page.specs.declared.Open.{Open}
+use Rattle.spilled.specs.Lent.{Spilled, gathered, recorded_in, gathered_by, lent_by}
+use Rattle.spilled.specs.Steps.{recorded_by, spilled_with}
+use Rattle.std.specs.Prelude.{Err, Ok, Result}
 
--- WHAT IS SHOWN WITH NO BUFFER stays, and the buffer with it
+pub lent-gathered : (x : Result Spilled Refusal) → lent_by (x >>= (λ c. Ok (gathered c))) ≡ gathered_by x
+lent-gathered (Err refusal) = refl
+lent-gathered (Ok c) = refl
 
-module _ {f : FoundCell} where
-  pub lent_found : (other : Answer Refusal Lent) (x : Answer Refusal Located) → found_by x ≡ fo.Shown f → lent_by (instead whole other x) ≡ le.Shown f Database
-  lent_found other (refused refusal) e = never cc
-  lent_found other (shown l) e = cc
-
-  pub kept-found : (g : Answer Refusal Gathered) (b : List ℕ) (x : Answer Refusal Located) → found_by x ≡ fo.Shown f → buffer_after x g b ≡ b
-  kept-found g b (refused refusal) e = never cc
-  kept-found g b (shown l) e = refl
-
-  pub same-found : (other : Answer Refusal Located) (x : Answer Refusal Located) → found_by x ≡ fo.Shown f → found_by (instead (λ l. l) other x) ≡ fo.Shown f
-  same-found other (refused refusal) e = never cc
-  same-found other (shown l) e = e
-
--- A SPILLED CELL, as the code has it
-
-pub lent-gathered : (x : Answer Refusal Spilled) → lent_by (x >>= (λ c. shown (gathered c))) ≡ gathered_by x
-lent-gathered (refused refusal) = refl
-lent-gathered (shown c) = refl
-
-module _ (page : Page) (i : ℕ) where
-  pub gathered-refused : (x : Answer Refusal Gathered) {refusal : Refusal} → gather_answer x ≡ ga.Refused refusal
-      → gathered_by (x >>= recorded_in page i) ≡ le.Refused refusal
-  gathered-refused (refused other) e = cc
-  gathered-refused (shown g) e = never cc
-
-  -- its record is read in the bytes that the buffer then begins with
-  pub gathered-recorded : (b : List ℕ) (x : Answer Refusal Gathered) {n : Numbers} {size : ℕ} → gather_answer x ≡ ga.Gathered n size
-      → gathered_by (x >>= recorded_in page i) ≡ recorded_by page i n (take size (drop 0 (buffer_by x b)))
-  gathered-recorded b (refused refusal) e = never cc
-  gathered-recorded b (shown g) {n} {size} e =
-      let m : g.numbers ≡ n = cc in
-      let l : length g.payload ≡ size = cc in
-      rw (← m, ← l, take-append_seam g.payload)
+-- its record is read in the bytes that the buffer then begins with
+pub gathered-recorded : (o : Open) (i : ℕ) (n : Numbers) (room : ℕ) (db b : List ℕ) {size : ℕ}
+    → gather_answer (gathered_with o i n room db) ≡ Ok size
+    → gathered_by (spilled_with o i n room db) ≡ recorded_by o.page i n (take size (drop 0 (buffer_by (gathered_with o i n room db) b)))
+gathered-recorded o i n room db b {size} e = go (gathered_with o i n room db) refl e
+  where
+    go : (x : Result Gathered Refusal) → gathered_with o i n room db ≡ x → gather_answer x ≡ Ok size
+        → gathered_by (x >>= recorded_in o.page i) ≡ recorded_by o.page i n (take size (drop 0 (buffer_by x b)))
+    go (Err refusal) q d = never cc
+    go (Ok g) q d =
+        let l : length g.payload ≡ size = cc in
+        rw (← given-numbers o i n room db q, ← l, take-append_seam g.payload)

@@ -13,7 +13,6 @@ use Rattle.answers.specs.declared.Fault.{Fault}
 use Rattle.answers.specs.declared.Fault.TheVariants as fa
 use Rattle.answers.specs.declared.Refusal.{Refusal}
 use Rattle.answers.specs.declared.Refusal.TheVariants.{OfDatabase, OnPage, InCell}
-use Rattle.answers.specs.Answer.{Answer, refused, shown}
 use Rattle.kinds.specs.Kind.{has_size, most_whole}
 use Rattle.cell.specs.declared.Numbers.{Numbers}
 use Rattle.cell.proofs.Spills.{Over}
@@ -28,6 +27,7 @@ use Rattle.spills.specs.Spills.{spills_as, spills}
 use Rattle.spilled.specs.Steps.{on_page, spilled_with}
 use Rattle.spills.specs.Over.{over_in, over}
 use Rattle.spilled.proofs.Laws.{lent-gathered}
+use Rattle.std.specs.Prelude.{Err, Ok, Result}
 
 -- WHETHER IT SPILLS
 
@@ -48,13 +48,13 @@ over-said o p e = go (has_size o.kind) refl e
     go false h d = never cc
 
 -- no other refusal is for a payload that spills
-not-spilling : {x : Answer Refusal Located} → ((number cell : ℕ) → x ≡ refused (InCell number cell fa.PayloadSpills) → ⊥)
-    → (refusal : Refusal) → x ≡ refused refusal → spills refusal ≡ false
+not-spilling : {x : Result Located Refusal} → ((number cell : ℕ) → x ≡ Err (InCell number cell fa.PayloadSpills) → ⊥)
+    → (refusal : Refusal) → x ≡ Err refusal → spills refusal ≡ false
 not-spilling none (OfDatabase flaw) e = refl
 not-spilling none (OnPage page reason) e = refl
 not-spilling {x} none (InCell page cell fault) e = by fault e
   where
-    by : (f : Fault) → x ≡ refused (InCell page cell f) → spills_as f ≡ false
+    by : (f : Fault) → x ≡ Err (InCell page cell f) → spills_as f ≡ false
     by fa.PointerOutside d = refl
     by fa.CellCut d = refl
     by fa.PayloadSpills d = absurd (none page cell d)
@@ -71,28 +71,28 @@ module _ (o : Open) (i room : ℕ) (db b : List ℕ) where
   -- ON ITS PAGE
 
   -- where there is no 18
-  kept : ((number cell : ℕ) → located_in o i db ≡ refused (InCell number cell fa.PayloadSpills) → ⊥)
+  kept : ((number cell : ℕ) → located_in o i db ≡ Err (InCell number cell fa.PayloadSpills) → ⊥)
       → (lent_by (lent_in o i room db) ≡ on_page (located_in o i db)) × (buffer_in o i db b ≡ b)
   unfolding lent_in buffer_in
   kept none = go (located_in o i db) refl
     where
-      go : (x : Answer Refusal Located) → located_in o i db ≡ x → (lent_by (lent_in o i room db) ≡ on_page x) × (buffer_in o i db b ≡ b)
-      go (shown l) e = rw e (refl, refl)
-      go (refused refusal) e = rw (e, not-spilling none refusal e) (refl, refl)
+      go : (x : Result Located Refusal) → located_in o i db ≡ x → (lent_by (lent_in o i room db) ≡ on_page x) × (buffer_in o i db b ≡ b)
+      go (Ok l) e = rw e (refl, refl)
+      go (Err refusal) e = rw (e, not-spilling none refusal e) (refl, refl)
 
   -- a cell whose numbers are refused
-  pub lent-unnumbered : {refusal : Refusal} → numbers_in o i db ≡ refused refusal
-      → (lent_by (lent_in o i room db) ≡ on_page (refused refusal)) × (buffer_in o i db b ≡ b)
+  pub lent-unnumbered : {refusal : Refusal} → numbers_in o i db ≡ Err refusal
+      → (lent_by (lent_in o i room db) ≡ on_page (Err refusal)) × (buffer_in o i db b ≡ b)
   lent-unnumbered {refusal} e =
       let k = kept (λ number cell d. let s = located-spills o i db d in let f = sym e ∙ s.read in never cc) in
       (k.0 ∙ ap on_page (numbers-refused o i db e), k.1)
 
-  module _ {n : Numbers} (e : numbers_in o i db ≡ shown n) where
+  module _ {n : Numbers} (e : numbers_in o i db ≡ Ok n) where
     -- or say that its payload lies on the page
     pub lent-fitting : over o n.size.value ≡ false → (lent_by (lent_in o i room db) ≡ on_page (located_in o i db)) × (buffer_in o i db b ≡ b)
     lent-fitting t = kept (λ number cell d. let f = sym t ∙ spills-over d in never cc)
       where
-        spills-over : {number cell : ℕ} → located_in o i db ≡ refused (InCell number cell fa.PayloadSpills) → over o n.size.value ≡ true
+        spills-over : {number cell : ℕ} → located_in o i db ≡ Err (InCell number cell fa.PayloadSpills) → over o n.size.value ≡ true
         spills-over d =
             let s = located-spills o i db d in
             let f = sym s.read ∙ e in

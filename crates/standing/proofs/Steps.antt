@@ -3,11 +3,13 @@ use Prim.Native.Nat.{ℕ, suc, ◌+◌, ◌-◌, ◌≤◌, ◌<◌}
 use mathlib.Core.Path.{◌≡◌, ap, ◌∙◌}
 use mathlib.Core.List.{List, [], ◌∷◌, ◌++◌}
 use native.Mathlib.Omega.{arith}
+use Rattle.std.specs.Prelude.{Result}
+use Rattle.answers.specs.declared.Refusal.{Refusal}
 use Rattle.page.specs.declared.Open.{Open}
 use Rattle.cells.specs.Numbered.{numbers_in}
-use Rattle.trace.specs.declared.Table.{Table}
 use Rattle.trace.specs.Walk.{Row}
 use Rattle.trace.specs.Table.{table_at, last_child}
+use Rattle.trace.specs.declared.Table.{Table}
 use Rattle.standing.specs.Rows.{child_by, row_at, leaf_rows, child_rows, page_rows, all_rows}
 
 module _ (o : Open) (db : List ℕ) (cells i : ℕ) where
@@ -31,7 +33,7 @@ pub rows_none : (depth : ℕ) (db : List ℕ) (n : ℕ) → depth ≡ 0 → all_
 unfolding all_rows
 rows_none depth db n e = rw (e, all_rows)
 
-pub rows-page : (depth : ℕ) (db : List ℕ) (n : ℕ) → (depth ≡ 0 → ⊥) → {t : Table} → table_at n db ≡ t
+pub rows-page : (depth : ℕ) (db : List ℕ) (n : ℕ) → (depth ≡ 0 → ⊥) → {t : Result Table Refusal} → table_at n db ≡ t
     → all_rows depth db n ≡ page_rows (all_rows (depth - 1) db) db t
 unfolding all_rows
 rows-page depth db n d e =

@@ -11,33 +11,30 @@ use lib.Dec.{ltb}
 use lib.IntN.{ℤ, pos}
 use lib.ListN.{length}
 use borrow.Author.Tests.{ltb-false}
+use Rattle.std.specs.Prelude.{Err, None, Ok, Result, Some}
 use Rattle.laws.specs.Pick.{pick}
 use Rattle.laws.proofs.Never.{never}
-use Rattle.reading.specs.declared.Reading.TheVariants.{File as file}
 use Rattle.answers.specs.declared.Flaw.{Flaw}
 use Rattle.answers.specs.declared.Refusal.{Refusal}
-use Rattle.answers.specs.Answer as an
+use Rattle.reading.specs.declared.Reading.TheVariants.{File as file}
 use Rattle.cell.specs.declared.Numbers.{Numbers}
 use Rattle.shape.specs.declared.Shape.{Shape}
 use Rattle.shape.specs.Shape.{shape_of}
 use Rattle.page.specs.declared.Open.{Open}
 use Rattle.cells.specs.Numbered.{numbers_in}
 use Rattle.keys.specs.Key.{key_of}
-use Rattle.order.specs.declared.Low.TheVariants.{Any, Above}
-use Rattle.trace.specs.declared.State.{State}
-use Rattle.trace.specs.declared.Table.{Table}
-use Rattle.trace.specs.declared.Table.TheVariants as ta
-use Rattle.trace.specs.declared.Walked.TheVariants as wa
-use Rattle.trace.specs.declared.Walked.{Walked}
-use Rattle.walk.specs.declared.CountAnswer.TheVariants as co
-use Rattle.trace.specs.Walk.{Row, Walk, refused, went, row, page, ◌>>=◌, told, rows_of}
 use Rattle.order.specs.Order.{placed_in}
+use Rattle.order.proofs.Placed.{placed-read}
+use Rattle.trace.specs.declared.State.{State}
+use Rattle.trace.specs.declared.Table.TheVariants as ta
+use Rattle.trace.specs.Walk.{Row, Walk, refused, went, row, page, ◌>>=◌, told, rows_of}
 use Rattle.trace.specs.Table.{table_at, last_child}
 use Rattle.trace.specs.Tree.{state, visit, leaf_of, children_of, cells_of, walk_of, table_of}
-use Rattle.trace.specs.Counted.{more, counted}
+use Rattle.trace.specs.Counted.{more, counted, walked}
+use Rattle.trace.proofs.Steps.{walked-parts, table-flawed, table-shaped}
+use Rattle.trace.specs.declared.Table.{Table}
+use Rattle.trace.specs.declared.Walked.{Walked}
 use Rattle.walk.specs.Counted.{count_by, count_of}
-use Rattle.order.proofs.Placed.{placed-read}
-use Rattle.trace.proofs.Steps.{table-flawed, table-shaped}
 use Rattle.standing.specs.Rows.{leaf_rows, child_rows, page_rows, all_rows}
 
 -- a walk that, where it is not refused, has the rows `all`
@@ -55,17 +52,17 @@ both f (on k w) h = on k (both f w h)
 
 -- numbers in their place, and what follows them
 in_place : (o : Open) (db : List ℕ) (most : ℤ) (i : ℕ) (s : State) {all : List Row} (f : Numbers → Walk State)
-    → ((n : Numbers) → numbers_in o i db ≡ an.shown n → Has (f n) all) → Has (told (placed_in o db most i s.low) >>= f) all
+    → ((n : Numbers) → numbers_in o i db ≡ Ok n → Has (f n) all) → Has (told (placed_in o db most i s.low) >>= f) all
 in_place o db most i s {all} f h = go (placed_in o db most i s.low) refl
   where
-    go : (x : an.Answer Refusal Numbers) → placed_in o db most i s.low ≡ x → Has (told x >>= f) all
-    go (an.refused r) e = none r all
-    go (an.shown n) e = h n (placed-read o db most i s.low e).0
+    go : (x : Result Numbers Refusal) → placed_in o db most i s.low ≡ x → Has (told x >>= f) all
+    go (Err r) e = none r all
+    go (Ok n) e = h n (placed-read o db most i s.low e).0
 
 leaf-has : (o : Open) (db : List ℕ) (most : ℤ) (left i : ℕ) (s : State) → Has (leaf_of o db most left i s) (leaf_rows o db left i)
 unfolding leaf_of leaf_rows
 leaf-has o db most zero i s = end s
-leaf-has o db most (suc left) i s = in_place o db most i s _ (λ n e. rw e (next _ (leaf-has o db most left (i + 1) (state s.visits (Above (key_of n))))))
+leaf-has o db most (suc left) i s = in_place o db most i s _ (λ n e. rw e (next _ (leaf-has o db most left (i + 1) (state s.visits (Some (key_of n))))))
 
 module _ (under : ℕ → ℤ → State → Walk State) (rows : ℕ → List Row) (has : (n : ℕ) (most : ℤ) (s : State) → Has (under n most s) (rows n)) (db : List ℕ) (most : ℤ) where
   children-has : (o : Open) (left i : ℕ) (s : State) → Has (children_of under o db most left i s) (child_rows rows o db left i)
@@ -73,12 +70,12 @@ module _ (under : ℕ → ℤ → State → Walk State) (rows : ℕ → List Row
   children-has o zero i s = has (last_child o db) most s
   children-has o (suc left) i s =
       in_place o db most i s _
-      (λ n e. rw e (both _ (has n.child (key_of n) s) λ t. children-has o left (i + 1) (state t.visits (Above (key_of n)))))
+      (λ n e. rw e (both _ (has n.child (key_of n) s) λ t. children-has o left (i + 1) (state t.visits (Some (key_of n)))))
 
-  cells-has : (t : Table) (s : State) → Has (cells_of under db most t s) (page_rows rows db t)
-  cells-has (ta.Refused r) s = none r []
-  cells-has (ta.Leaf o) s = leaf-has o db most o.cells 0 s
-  cells-has (ta.Interior o) s = children-has o o.cells 0 s
+  cells-has : (t : Result Table Refusal) (s : State) → Has (cells_of under db most t s) (page_rows rows db t)
+  cells-has (Err r) s = none r []
+  cells-has (Ok (ta.Leaf o)) s = leaf-has o db most o.cells 0 s
+  cells-has (Ok (ta.Interior o)) s = children-has o o.cells 0 s
 
 visited : (n visits : ℕ) {all : List Row} (f : ℕ → Walk State) → ((v : ℕ) → Has (f v) all) → Has (visit n visits >>= f) all
 visited n zero {all} f h = none _ all
@@ -92,9 +89,9 @@ has (suc depth) db n most s = visited n s.visits _ λ v. cells-has (walk_of dept
 table-has : (n : ℕ) (db : List ℕ) → Has (table_of n db) (all_rows 20 db n)
 table-has n db = go (shape_of file db) refl
   where
-    go : (x : an.Answer Flaw Shape) → shape_of file db ≡ x → Has (table_of n db) (all_rows 20 db n)
-    go (an.refused flaw) e = rw (table-flawed n db e) (none _ (all_rows 20 db n))
-    go (an.shown shape) e = rw (table-shaped n db e) (has 20 db n (pos 9223372036854775807) (state shape.pages Any))
+    go : (x : Result Shape Flaw) → shape_of file db ≡ x → Has (table_of n db) (all_rows 20 db n)
+    go (Err flaw) e = rw (table-flawed n db e) (none _ (all_rows 20 db n))
+    go (Ok shape) e = rw (table-shaped n db e) (has 20 db n (pos 9223372036854775807) (state shape.pages None))
 
 -- one more than a count that can still grow
 grown : (n : ℕ) → (n ≤ more n) × (more n < 18446744073709551615 → more n ≡ n + 1)
@@ -105,15 +102,15 @@ grown n = go (ltb n 18446744073709551615) refl
     go false e = let f = ltb-false n 18446744073709551615 e in (omega arith, λ h. absurd (omega arith))
 
 -- the rows of an accepted walk, and how many it counted
-same_rows : {w : Walk State} {all : List Row} {s : State} {m : ℕ} (n : ℕ) → Has w all → counted n w ≡ wa.Done s m → rows_of w ≡ all
+same_rows : {w : Walk State} {all : List Row} {s : State} {m : ℕ} (n : ℕ) → Has w all → counted n w ≡ walked s m → rows_of w ≡ all
 same_rows n (none r all) e = never cc
 same_rows n (end t) e = refl
 same_rows n (next r more_rows) e = ap (λ (l : List Row). r ∷ l) (same_rows (more n) more_rows e)
 same_rows n (on k w) e = same_rows n w e
 
-counts : {w : Walk State} {all : List Row} {s : State} {m : ℕ} (n : ℕ) → Has w all → counted n w ≡ wa.Done s m → m < 18446744073709551615 → m ≡ n + length all
+counts : {w : Walk State} {all : List Row} {s : State} {m : ℕ} (n : ℕ) → Has w all → counted n w ≡ walked s m → m < 18446744073709551615 → m ≡ n + length all
 counts n (none r all) e h = never cc
-counts {m = m} n (end t) e h = let k : n ≡ m = cc in omega arith
+counts {m = m} n (end t) e h = let p = walked-parts e in omega (arith, p.1)
 counts {m = m} n (next r {w} {all} more_rows) e h =
     let k = counts (more n) more_rows e h in
     let g = grown n in
@@ -123,16 +120,16 @@ counts {m = m} n (next r {w} {all} more_rows) e h =
 counts n (on k w) e h = counts n w e h
 
 module _ (n : ℕ) (db : List ℕ) {m : ℕ} where
-  accepted : count_of n db ≡ co.Shown m → (s : State) × (counted 0 (table_of n db) ≡ wa.Done s m)
+  accepted : count_of n db ≡ Ok m → (s : State) × (counted 0 (table_of n db) ≡ walked s m)
   unfolding count_of
   accepted e = go (counted 0 (table_of n db)) refl e
     where
-      go : (x : Walked) → counted 0 (table_of n db) ≡ x → count_by x ≡ co.Shown m → (s : State) × (counted 0 (table_of n db) ≡ wa.Done s m)
-      go (wa.Refused r) q d = never cc
-      go (wa.Done s c) q d = let i : c ≡ m = cc in (s, q ∙ ap (wa.Done s) i)
+      go : (x : Result Walked Refusal) → counted 0 (table_of n db) ≡ x → count_by x ≡ Ok m → (s : State) × (counted 0 (table_of n db) ≡ walked s m)
+      go (Err r) q d = never cc
+      go (Ok w) q d = let i : w.count ≡ m = cc in (w.state, q ∙ ap (walked w.state) i)
 
-  pub whole : count_of n db ≡ co.Shown m → rows_of (table_of n db) ≡ all_rows 20 db n
+  pub whole : count_of n db ≡ Ok m → rows_of (table_of n db) ≡ all_rows 20 db n
   whole e = same_rows 0 (table-has n db) (accepted e).1
 
-  pub whole-counted : count_of n db ≡ co.Shown m → m < 18446744073709551615 → m ≡ length (all_rows 20 db n)
+  pub whole-counted : count_of n db ≡ Ok m → m < 18446744073709551615 → m ≡ length (all_rows 20 db n)
   whole-counted e h = counts 0 (table-has n db) (accepted e).1 h ∙ omega arith

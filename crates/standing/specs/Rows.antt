@@ -1,24 +1,23 @@
 -- The rows that stand in a table, with no check of it.
-use Rattle.std.specs.Prelude.{ℕ, zero, suc, ◌+◌, List, [], ◌∷◌, ◌++◌, ℤ, pos}
+use Rattle.std.specs.Prelude.{ℕ, zero, suc, ◌+◌, List, [], ◌∷◌, ◌++◌, ℤ, pos, Err, Ok, Result}
 use Rattle.answers.specs.declared.Refusal.{Refusal}
-use Rattle.answers.specs.Answer.{Answer, refused, shown}
 use Rattle.cell.specs.declared.Numbers.{Numbers}
 use Rattle.page.specs.declared.Open.{Open}
 use Rattle.cells.specs.Numbered.{numbers_in}
 use Rattle.keys.specs.Key.{key_in}
-use Rattle.trace.specs.declared.Table.{Table}
-use Rattle.trace.specs.declared.Table.TheVariants.{Leaf, Interior, Refused}
+use Rattle.trace.specs.declared.Table.TheVariants.{Leaf, Interior}
 use Rattle.trace.specs.Walk.{Row}
 use Rattle.trace.specs.Table.{table_at, last_child}
+use Rattle.trace.specs.declared.Table.{Table}
 
 -- 0 for what is not there
-abbrev pub number_by : Answer Refusal ℤ → ℤ
-number_by (refused r) = pos 0
-number_by (shown x) = x
+abbrev pub number_by : Result ℤ Refusal → ℤ
+number_by (Err r) = pos 0
+number_by (Ok x) = x
 
-abbrev pub child_by : Answer Refusal Numbers → ℕ
-child_by (refused r) = 0
-child_by (shown n) = n.child
+abbrev pub child_by : Result Numbers Refusal → ℕ
+child_by (Err r) = 0
+child_by (Ok n) = n.child
 
 abbrev pub row_at : Open → List ℕ → ℕ → Row
 row_at o db i = record { page = o.page.number; cell = i; number = number_by (key_in o i db) }
@@ -33,10 +32,10 @@ unfoldable pub child_rows : (ℕ → List Row) → Open → List ℕ → ℕ →
 child_rows under o db zero i = under (last_child o db)
 child_rows under o db (suc left) i = under (child_by (numbers_in o i db)) ++ child_rows under o db left (i + 1)
 
-abbrev pub page_rows : (ℕ → List Row) → List ℕ → Table → List Row
-page_rows under db (Refused r) = []
-page_rows under db (Leaf o) = leaf_rows o db o.cells 0
-page_rows under db (Interior o) = child_rows under o db o.cells 0
+abbrev pub page_rows : (ℕ → List Row) → List ℕ → Result Table Refusal → List Row
+page_rows under db (Err r) = []
+page_rows under db (Ok (Leaf o)) = leaf_rows o db o.cells 0
+page_rows under db (Ok (Interior o)) = child_rows under o db o.cells 0
 
 -- under page n, at most so many pages deep
 unfoldable pub all_rows : ℕ → List ℕ → ℕ → List Row

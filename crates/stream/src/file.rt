@@ -1,107 +1,51 @@
 // What the file reading shows of the rows of a database: a line for each cell of each table leaf page, which has page,
 // cell, row number and values, or `refused` and the five numbers.
 use crate::pages::pages;
-use crate::telling::Telling;
-use answers::Refusal;
 use kinds::Kind;
-use page::OpenAnswer;
-use print::out::{field, field_u32, refused, text};
+use print::refused;
 use reading::Reading;
-use shape::ShapeAnswer;
-use site::{Site, SiteAnswer};
+use site::Site;
 use std::io;
 use std::io::Write;
 
-pub fn database<W: Write>(to: &mut W, db: &[u8], out: &mut [u8], at: usize) -> io::Result<usize> {
-    let answer = shape::shape_of(db, Reading::File);
-    match answer {
-        ShapeAnswer::Refused(flaw) => {
-            let numbers = answers::numbers_of(Refusal::OfDatabase(flaw));
-            let n = text(to, out, at, b"header")?;
-            refused(to, out, n, numbers)
+pub fn database<W: Write>(to: &mut W, db: &[u8]) -> io::Result<()> {
+    match shape::shape_of(db, Reading::File) {
+        Err(flaw) => {
+            write!(to, "header")?;
+            refused(to, answers::numbers_of(flaw.into()))
         }
-        ShapeAnswer::Shown(shape) => {
-            pages(
-                to,
-                db,
-                out,
-                at,
-                Reading::File,
-                Telling::Numbers,
-                1,
-                shape.present,
-            )
+        Ok(shape) => {
+            for number in pages(1, shape.present) {
+                page(to, db, number)?;
+            }
+            Ok(())
         }
     }
 }
 
 // Other pages than table leaves are passed by.
-pub fn page<W: Write>(
-    to: &mut W,
-    db: &[u8],
-    out: &mut [u8],
-    at: usize,
-    number: u32,
-) -> io::Result<usize> {
-    let found = site::site_of(db, place::file(number));
-    match found {
-        SiteAnswer::Refused(_) => Ok(at),
-        SiteAnswer::Shown(site) => {
-            let kind = site.kind;
-            match kind {
-                Kind::LeafTable => leaf(to, db, out, at, number, site),
-                Kind::LeafIndex => Ok(at),
-                Kind::InteriorTable => Ok(at),
-                Kind::InteriorIndex => Ok(at),
+fn page<W: Write>(to: &mut W, db: &[u8], number: u32) -> io::Result<()> {
+    match site::site_of(db, place::file(number)) {
+        Err(_) => Ok(()),
+        Ok(site) => match site.kind {
+            Kind::LeafTable => leaf(to, db, number, site),
+            _ => Ok(()),
+        },
+    }
+}
+
+fn leaf<W: Write>(to: &mut W, db: &[u8], number: u32, site: Site) -> io::Result<()> {
+    match page::open_site(db, site) {
+        Err(refusal) => {
+            write!(to, "page {number}")?;
+            refused(to, answers::numbers_of(refusal))
+        }
+        Ok(opened) => {
+            for i in 0..opened.cells {
+                write!(to, "row {number} {i}")?;
+                texts::row(to, db, row::found(db, place::file(number), i))?;
             }
+            Ok(())
         }
     }
-}
-
-fn leaf<W: Write>(
-    to: &mut W,
-    db: &[u8],
-    out: &mut [u8],
-    at: usize,
-    number: u32,
-    site: Site,
-) -> io::Result<usize> {
-    let answer = page::open_site(db, site);
-    match answer {
-        OpenAnswer::Refused(refusal) => {
-            let n = text(to, out, at, b"page")?;
-            let n = field_u32(to, out, n, number)?;
-            refused(to, out, n, answers::numbers_of(refusal))
-        }
-        OpenAnswer::Shown(opened) => cells(to, db, out, at, number, opened.cells),
-    }
-}
-
-fn cells<W: Write>(
-    to: &mut W,
-    db: &[u8],
-    out: &mut [u8],
-    at: usize,
-    number: u32,
-    count: usize,
-) -> io::Result<usize> {
-    let mut n = at;
-    for i in 0..count {
-        n = cell(to, db, out, n, number, i)?;
-    }
-    Ok(n)
-}
-
-fn cell<W: Write>(
-    to: &mut W,
-    db: &[u8],
-    out: &mut [u8],
-    at: usize,
-    number: u32,
-    i: usize,
-) -> io::Result<usize> {
-    let n = text(to, out, at, b"row")?;
-    let n = field_u32(to, out, n, number)?;
-    let n = field(to, out, n, i as u64)?;
-    texts::row(to, db, out, n, row::found(db, place::file(number), i))
 }

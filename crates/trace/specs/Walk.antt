@@ -1,7 +1,6 @@
 -- A walk, as it goes: the pages that it comes to and the rows that it finds, in their order, and how it ends.
-use Rattle.std.specs.Prelude.{ℕ, List, [], ◌∷◌, ℤ}
+use Rattle.std.specs.Prelude.{ℕ, List, [], ◌∷◌, ℤ, Err, Ok, Result}
 use Rattle.answers.specs.declared.Refusal.{Refusal}
-use Rattle.answers.specs.Answer as an
 
 -- where a row is, and its number
 pub record Row : Type 0 where
@@ -24,9 +23,9 @@ abbrev pub ◌>>=◌ : {A B : Type 0} → Walk A → (A → Walk B) → Walk B
 ◌>>=◌ (page n w) f = page n (w >>= f)
 
 -- what is shown with no step
-abbrev pub told : {A : Type 0} → an.Answer Refusal A → Walk A
-told (an.refused r) = refused r
-told (an.shown a) = went a
+abbrev pub told : {A : Type 0} → Result A Refusal → Walk A
+told (Err r) = refused r
+told (Ok a) = went a
 
 -- the rows that it finds, and the pages that it comes to
 abbrev pub rows_of : {A : Type 0} → Walk A → List Row

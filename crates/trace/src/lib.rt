@@ -2,21 +2,20 @@
 // types and no function; who walks is `walk`.
 #![tactic(auto)]
 
-use answers::Refusal;
-use order::Low;
 use page::Open;
 
 #[derive(Clone, Copy)]
 pub struct State {
     // Pages that may still be visited.
     pub visits: usize,
-    pub low: Low,
+    pub low: Option<i64>,
 }
 
+// A walk that came to its end, and the rows that it counted.
 #[derive(Clone, Copy)]
-pub enum Walked {
-    Refused(Refusal),
-    Done { state: State, count: usize },
+pub struct Walked {
+    pub state: State,
+    pub count: usize,
 }
 
 // A page of a table, opened.
@@ -24,5 +23,4 @@ pub enum Walked {
 pub enum Table {
     Leaf(Open),
     Interior(Open),
-    Refused(Refusal),
 }

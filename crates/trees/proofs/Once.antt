@@ -4,13 +4,11 @@ use mathlib.Core.Path.{◌≡◌, sym, ap, subst, ◌∙◌}
 use mathlib.Core.List.{List, [], ◌∷◌}
 use lib.IntN.{ℤ, pos}
 use lib.Signed.{◌≤ℤ◌, clash_ℤ}
-use Rattle.answers.specs.Answer as an
+use Rattle.std.specs.Prelude.{None, Ok, Option, Some}
 use Rattle.place.specs.Place.{file_page}
 use Rattle.page.specs.declared.Open.{Open}
 use Rattle.page.specs.Open.{open_of}
 use Rattle.keys.specs.Key.{key_in}
-use Rattle.order.specs.declared.Low.{Low}
-use Rattle.order.specs.declared.Low.TheVariants.{Any, Above}
 use Rattle.trace.specs.Walk.{Row, rows_of}
 use Rattle.trace.specs.Tree.{table_of}
 use Rattle.trees.specs.Trees.{Rising, Cell, Each, Apart, Once, ListedOnce}
@@ -20,13 +18,13 @@ use Rattle.trees.proofs.Places.{are-cells}
 module _ (db : List ℕ) where
   one_number : (r q : Row) → Cell db r → Cell db q → r.page ≡ q.page → r.cell ≡ q.cell → r.number ≡ q.number
   one_number r q c d p i =
-      let same : an.shown c.o ≡ an.shown d.o = sym c.there ∙ ap (λ (n : ℕ). open_of (file_page n) db) p ∙ d.there in
+      let same : Ok c.o ≡ Ok d.o = sym c.there ∙ ap (λ (n : ℕ). open_of (file_page n) db) p ∙ d.there in
       let o : c.o ≡ d.o = cc in
-      let k : an.shown r.number ≡ an.shown q.number = sym c.read ∙ ap (λ (x : Open). key_in x r.cell db) o ∙ ap (λ (j : ℕ). key_in d.o j db) i ∙ d.read in
+      let k : Ok r.number ≡ Ok q.number = sym c.read ∙ ap (λ (x : Open). key_in x r.cell db) o ∙ ap (λ (j : ℕ). key_in d.o j db) i ∙ d.read in
       cc
 
   -- a row is apart from all that are above it
-  apart : (most low : ℤ) (r : Row) → Cell db r → r.number ≤ℤ low → (rows : List Row) → Each (Cell db) rows → Rising (Above low) most rows → Each (Apart r) rows
+  apart : (most low : ℤ) (r : Row) → Cell db r → r.number ≤ℤ low → (rows : List Row) → Each (Cell db) rows → Rising (Some low) most rows → Each (Apart r) rows
   apart most low r c h [] cells up = tt
   apart most low r c h (q ∷ rows) cells up =
       let below = le-lt h up.1 in (
@@ -34,10 +32,10 @@ module _ (db : List ℕ) where
         apart most q.number r c (lt_to_le r.number q.number below) rows cells.1 up.2,
       )
 
-  once : (low : Low) (most : ℤ) (rows : List Row) → Each (Cell db) rows → Rising low most rows → Once rows
+  once : (low : Option ℤ) (most : ℤ) (rows : List Row) → Each (Cell db) rows → Rising low most rows → Once rows
   once low most [] cells up = tt
   once low most (r ∷ rows) cells up =
-      (apart most r.number r cells.0 (same-le r.number) rows cells.1 up.2, once (Above r.number) most rows cells.1 up.2)
+      (apart most r.number r cells.0 (same-le r.number) rows cells.1 up.2, once (Some r.number) most rows cells.1 up.2)
 
 pub listed-once : ListedOnce
-listed-once n db = once db Any (pos 9223372036854775807) (rows_of (table_of n db)) (are-cells n db) (rises n db)
+listed-once n db = once db None (pos 9223372036854775807) (rows_of (table_of n db)) (are-cells n db) (rises n db)

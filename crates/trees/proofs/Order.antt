@@ -11,28 +11,26 @@ use lib.IntN.{ℤ, pos, negsuc}
 use lib.Dec.{T, ltb→lt, le→leb}
 use lib.Signed.{lt_z, ◌≤ℤ◌, ◌<ℤ◌, lt_z_yes, lt_z_no, <ℤ-≤ℤ_trans, clash_ℤ}
 use native.Mathlib.Nat.{le_of_lt}
+use Rattle.std.specs.Prelude.{Err, None, Ok, Option, Result, Some}
 use Rattle.laws.specs.Pick.{pick}
 use Rattle.laws.proofs.Never.{never}
-use Rattle.reading.specs.declared.Reading.TheVariants.{File as file}
 use Rattle.answers.specs.declared.Flaw.{Flaw}
 use Rattle.answers.specs.declared.Refusal.{Refusal}
-use Rattle.answers.specs.Answer as an
+use Rattle.reading.specs.declared.Reading.TheVariants.{File as file}
 use Rattle.cell.specs.declared.Numbers.{Numbers}
 use Rattle.shape.specs.declared.Shape.{Shape}
 use Rattle.shape.specs.Shape.{shape_of}
 use Rattle.page.specs.declared.Open.{Open}
 use Rattle.keys.specs.Key.{key_of}
-use Rattle.order.specs.declared.Low.{Low}
-use Rattle.order.specs.declared.Low.TheVariants.{Any, Above}
-use Rattle.trace.specs.declared.State.{State}
-use Rattle.trace.specs.declared.Table.{Table}
-use Rattle.trace.specs.declared.Table.TheVariants.{Leaf, Interior, Refused}
-use Rattle.trace.specs.Walk.{Row, Walk, refused, went, row, page, ◌>>=◌, told, rows_of}
 use Rattle.order.specs.Order.{above, fits_in, placed_in}
+use Rattle.order.proofs.Placed.{placed-read}
+use Rattle.trace.specs.declared.State.{State}
+use Rattle.trace.specs.declared.Table.TheVariants.{Leaf, Interior}
+use Rattle.trace.specs.Walk.{Row, Walk, refused, went, row, page, ◌>>=◌, told, rows_of}
 use Rattle.trace.specs.Table.{table_at, last_child}
 use Rattle.trace.specs.Tree.{state, visit, leaf_of, children_of, cells_of, walk_of, table_of}
-use Rattle.order.proofs.Placed.{placed-read}
 use Rattle.trace.proofs.Steps.{table-flawed, table-shaped}
+use Rattle.trace.specs.declared.Table.{Table}
 use Rattle.trees.specs.Trees.{Over, Rising, Rises}
 
 -- the order of signed numbers
@@ -64,56 +62,56 @@ le-le {a} {b} {c} h k = go (lt_z c a) refl
     go false e = lt_z_no (rw e tt)
 
 -- a walk whose rows rise from `low` on and are at most `most`
-abbrev Up : Low → ℤ → Walk State → Type 0
+abbrev Up : Option ℤ → ℤ → Walk State → Type 0
 Up low most w = Rising low most (rows_of w)
 
 -- a low end that a number is not below
-abbrev UpTo : Low → ℤ → Type 0
-UpTo Any key = Unit
-UpTo (Above last) key = last ≤ℤ key
+abbrev UpTo : Option ℤ → ℤ → Type 0
+UpTo None key = Unit
+UpTo (Some last) key = last ≤ℤ key
 
-over : (low : Low) {key x : ℤ} → UpTo low key → key <ℤ x → Over low x
-over Any u h = tt
-over (Above last) u h = le-lt u h
+over : (low : Option ℤ) {key x : ℤ} → UpTo low key → key <ℤ x → Over low x
+over None u h = tt
+over (Some last) u h = le-lt u h
 
-over-to : (low : Low) (key : ℤ) → Over low key → UpTo low key
-over-to Any key o = tt
-over-to (Above last) key o = lt_to_le last key o
+over-to : (low : Option ℤ) (key : ℤ) → Over low key → UpTo low key
+over-to None key o = tt
+over-to (Some last) key o = lt_to_le last key o
 
-lower : (low : Low) (key most : ℤ) → UpTo low key → (rows : List Row) → Rising (Above key) most rows → Rising low most rows
+lower : (low : Option ℤ) (key most : ℤ) → UpTo low key → (rows : List Row) → Rising (Some key) most rows → Rising low most rows
 lower low key most u [] r = tt
 lower low key most u (x ∷ rows) r = (r.0, over low u r.1, r.2)
 
 -- rows up to a key, and then rows above it
-joined : (low : Low) (key most : ℤ) → UpTo low key → key ≤ℤ most → (w : Walk State) (f : State → Walk State)
-    → Up low key w → ((t : State) → Up (Above key) most (f t)) → Up low most (w >>= f)
+joined : (low : Option ℤ) (key most : ℤ) → UpTo low key → key ≤ℤ most → (w : Walk State) (f : State → Walk State)
+    → Up low key w → ((t : State) → Up (Some key) most (f t)) → Up low most (w >>= f)
 joined low key most u h (refused r) f first rest = tt
 joined low key most u h (went t) f first rest = lower low key most u (rows_of (f t)) (rest t)
 joined low key most u h (page k w) f first rest = joined low key most u h w f first rest
-joined low key most u h (row r w) f first rest = (le-le first.0 h, first.1, joined (Above r.number) key most first.0 h w f first.2 rest)
+joined low key most u h (row r w) f first rest = (le-le first.0 h, first.1, joined (Some r.number) key most first.0 h w f first.2 rest)
 
 -- a number in its place
-in_place : (low : Low) (most x : ℤ) → fits_in low most x ≡ true → (x ≤ℤ most) × Over low x
+in_place : (low : Option ℤ) (most x : ℤ) → fits_in low most x ≡ true → (x ≤ℤ most) × Over low x
 in_place low most x = go low (lt_z most x) refl
   where
-    go : (low : Low) (b : Bool) → lt_z most x ≡ b → pick b false (above low x) ≡ true → (x ≤ℤ most) × Over low x
+    go : (low : Option ℤ) (b : Bool) → lt_z most x ≡ b → pick b false (above low x) ≡ true → (x ≤ℤ most) × Over low x
     go low true e t = never cc
-    go Any false e t = (lt_z_no (rw e tt), tt)
-    go (Above last) false e t = (lt_z_no (rw e tt), lt_z_yes (truth t))
+    go None false e t = (lt_z_no (rw e tt), tt)
+    go (Some last) false e t = (lt_z_no (rw e tt), lt_z_yes (truth t))
 
-placed : (o : Open) (db : List ℕ) (most : ℤ) (i : ℕ) (low : Low) (f : Numbers → Walk State)
+placed : (o : Open) (db : List ℕ) (most : ℤ) (i : ℕ) (low : Option ℤ) (f : Numbers → Walk State)
     → ((n : Numbers) → key_of n ≤ℤ most → Over low (key_of n) → Up low most (f n)) → Up low most (told (placed_in o db most i low) >>= f)
 placed o db most i low f rest = go (placed_in o db most i low) refl
   where
-    go : (x : an.Answer Refusal Numbers) → placed_in o db most i low ≡ x → Up low most (told x >>= f)
-    go (an.refused r) e = tt
-    go (an.shown n) e = let p = in_place low most (key_of n) (placed-read o db most i low e).1 in rest n p.0 p.1
+    go : (x : Result Numbers Refusal) → placed_in o db most i low ≡ x → Up low most (told x >>= f)
+    go (Err r) e = tt
+    go (Ok n) e = let p = in_place low most (key_of n) (placed-read o db most i low e).1 in rest n p.0 p.1
 
 leaf-up : (o : Open) (db : List ℕ) (most : ℤ) (left i : ℕ) (s : State) → Up s.low most (leaf_of o db most left i s)
 unfolding leaf_of
 leaf-up o db most zero i s = tt
 leaf-up o db most (suc left) i s =
-    placed o db most i s.low _ λ n h k. (h, k, leaf-up o db most left (i + 1) (state s.visits (Above (key_of n))))
+    placed o db most i s.low _ λ n h k. (h, k, leaf-up o db most left (i + 1) (state s.visits (Some (key_of n))))
 
 module _ (under : ℕ → ℤ → State → Walk State) (rises : (n : ℕ) (most : ℤ) (s : State) → Up s.low most (under n most s)) (db : List ℕ) (most : ℤ) where
   children-up : (o : Open) (left i : ℕ) (s : State) → Up s.low most (children_of under o db most left i s)
@@ -122,14 +120,14 @@ module _ (under : ℕ → ℤ → State → Walk State) (rises : (n : ℕ) (most
   children-up o (suc left) i s =
       placed o db most i s.low _ λ n h k.
       joined s.low (key_of n) most (over-to s.low (key_of n) k) h (under n.child (key_of n) s) _ (rises n.child (key_of n) s)
-      λ t. children-up o left (i + 1) (state t.visits (Above (key_of n)))
+      λ t. children-up o left (i + 1) (state t.visits (Some (key_of n)))
 
-  cells_up : (t : Table) (s : State) → Up s.low most (cells_of under db most t s)
-  cells_up (Refused r) s = tt
-  cells_up (Leaf o) s = leaf-up o db most o.cells 0 s
-  cells_up (Interior o) s = children-up o o.cells 0 s
+  cells_up : (t : Result Table Refusal) (s : State) → Up s.low most (cells_of under db most t s)
+  cells_up (Err r) s = tt
+  cells_up (Ok (Leaf o)) s = leaf-up o db most o.cells 0 s
+  cells_up (Ok (Interior o)) s = children-up o o.cells 0 s
 
-visited : (n visits : ℕ) (low : Low) (most : ℤ) (f : ℕ → Walk State) → ((v : ℕ) → Up low most (f v)) → Up low most (visit n visits >>= f)
+visited : (n visits : ℕ) (low : Option ℤ) (most : ℤ) (f : ℕ → Walk State) → ((v : ℕ) → Up low most (f v)) → Up low most (visit n visits >>= f)
 visited n zero low most f h = tt
 visited n (suc v) low most f h = h v
 
@@ -141,6 +139,6 @@ walk_up (suc depth) db n most s = visited n s.visits s.low most _ λ v. cells_up
 pub rises : Rises
 rises n db = go (shape_of file db) refl
   where
-    go : (x : an.Answer Flaw Shape) → shape_of file db ≡ x → Rising Any (pos 9223372036854775807) (rows_of (table_of n db))
-    go (an.refused flaw) e = rw (table-flawed n db e) tt
-    go (an.shown shape) e = rw (table-shaped n db e) (walk_up 20 db n (pos 9223372036854775807) (state shape.pages Any))
+    go : (x : Result Shape Flaw) → shape_of file db ≡ x → Rising None (pos 9223372036854775807) (rows_of (table_of n db))
+    go (Err flaw) e = rw (table-flawed n db e) tt
+    go (Ok shape) e = rw (table-shaped n db e) (walk_up 20 db n (pos 9223372036854775807) (state shape.pages None))

@@ -8,20 +8,19 @@ use mathlib.Core.List.{List}
 use native.Mathlib.Omega.{arith}
 use lib.IntN.{ℤ, pos}
 use lib.ListN.{length}
+use Rattle.std.specs.Prelude.{Err, None, Ok, Result, Some}
 use Rattle.answers.specs.declared.Refusal.{Refusal}
-use Rattle.answers.specs.Answer as an
 use Rattle.cell.specs.declared.Numbers.{Numbers}
 use Rattle.page.specs.declared.Open.{Open}
 use Rattle.keys.specs.Key.{key_of}
-use Rattle.order.specs.declared.Low.TheVariants.{Any, Above}
-use Rattle.trace.specs.declared.State.{State}
-use Rattle.trace.specs.declared.Table.{Table}
-use Rattle.trace.specs.declared.Table.TheVariants.{Leaf, Interior, Refused}
-use Rattle.trace.specs.Walk.{Walk, refused, went, row, page, ◌>>=◌, told, pages_of}
 use Rattle.order.specs.Order.{placed_in}
+use Rattle.trace.specs.declared.State.{State}
+use Rattle.trace.specs.declared.Table.TheVariants.{Leaf, Interior}
+use Rattle.trace.specs.Walk.{Walk, refused, went, row, page, ◌>>=◌, told, pages_of}
 use Rattle.trace.specs.Table.{table_at, last_child}
 use Rattle.trace.specs.Tree.{state, visit, leaf_of, children_of, cells_of, walk_of}
 use Rattle.trace.proofs.Steps.{table-shaped}
+use Rattle.trace.specs.declared.Table.{Table}
 use Rattle.trees.specs.Trees.{VisitsEnd}
 
 -- a walk comes to no more pages than it has visits, and what it leaves is not more either
@@ -43,14 +42,14 @@ spent v (went s) h = omega arith
 spent v (row r w) h = spent v w h
 spent v (page n w) h = let l = spent h.0 w h.2 in omega (arith, h.1)
 
-in_place : (v : ℕ) (x : an.Answer Refusal Numbers) (f : Numbers → Walk State) → ((n : Numbers) → Spends v (f n)) → Spends v (told x >>= f)
-in_place v (an.refused r) f h = tt
-in_place v (an.shown n) f h = h n
+in_place : (v : ℕ) (x : Result Numbers Refusal) (f : Numbers → Walk State) → ((n : Numbers) → Spends v (f n)) → Spends v (told x >>= f)
+in_place v (Err r) f h = tt
+in_place v (Ok n) f h = h n
 
 leaf-spends : (o : Open) (db : List ℕ) (most : ℤ) (left i : ℕ) (s : State) (v : ℕ) → s.visits ≤ v → Spends v (leaf_of o db most left i s)
 unfolding leaf_of
 leaf-spends o db most zero i s v l = l
-leaf-spends o db most (suc left) i s v l = in_place v (placed_in o db most i s.low) _ λ n. leaf-spends o db most left (i + 1) (state s.visits (Above (key_of n))) v l
+leaf-spends o db most (suc left) i s v l = in_place v (placed_in o db most i s.low) _ λ n. leaf-spends o db most left (i + 1) (state s.visits (Some (key_of n))) v l
 
 module _ (under : ℕ → ℤ → State → Walk State) (spends : (n : ℕ) (most : ℤ) (s : State) (v : ℕ) → s.visits ≤ v → Spends v (under n most s)) (db : List ℕ) (most : ℤ) where
   children-spends : (o : Open) (left i : ℕ) (s : State) (v : ℕ) → s.visits ≤ v → Spends v (children_of under o db most left i s)
@@ -58,12 +57,12 @@ module _ (under : ℕ → ℤ → State → Walk State) (spends : (n : ℕ) (mos
   children-spends o zero i s v l = spends (last_child o db) most s v l
   children-spends o (suc left) i s v l =
       in_place v (placed_in o db most i s.low) _ λ n.
-      both v (under n.child (key_of n) s) _ (spends n.child (key_of n) s v l) λ t u m. children-spends o left (i + 1) (state t.visits (Above (key_of n))) u m
+      both v (under n.child (key_of n) s) _ (spends n.child (key_of n) s v l) λ t u m. children-spends o left (i + 1) (state t.visits (Some (key_of n))) u m
 
-  cells-spend : (t : Table) (s : State) (v : ℕ) → s.visits ≤ v → Spends v (cells_of under db most t s)
-  cells-spend (Refused r) s v l = tt
-  cells-spend (Leaf o) s v l = leaf-spends o db most o.cells 0 s v l
-  cells-spend (Interior o) s v l = children-spends o o.cells 0 s v l
+  cells-spend : (t : Result Table Refusal) (s : State) (v : ℕ) → s.visits ≤ v → Spends v (cells_of under db most t s)
+  cells-spend (Err r) s v l = tt
+  cells-spend (Ok (Leaf o)) s v l = leaf-spends o db most o.cells 0 s v l
+  cells-spend (Ok (Interior o)) s v l = children-spends o o.cells 0 s v l
 
 visited : (n visits v : ℕ) → visits ≤ v → (f : ℕ → Walk State) → ((w u : ℕ) → w ≤ u → Spends u (f w)) → Spends v (visit n visits >>= f)
 visited n zero v l f h = tt
@@ -76,4 +75,4 @@ walk-spends zero db n most s v l = visited n s.visits v l _ λ w u m. tt
 walk-spends (suc depth) db n most s v l = visited n s.visits v l _ λ w u m. cells-spend (walk_of depth db) (walk-spends depth db) db most (table_at n db) (state w s.low) u m
 
 pub visits-end : VisitsEnd
-visits-end n db shape e = rw (table-shaped n db e) (spent shape.pages (walk_of 20 db n (pos 9223372036854775807) (state shape.pages Any)) (walk-spends 20 db n (pos 9223372036854775807) (state shape.pages Any) shape.pages (omega arith)))
+visits-end n db shape e = rw (table-shaped n db e) (spent shape.pages (walk_of 20 db n (pos 9223372036854775807) (state shape.pages None)) (walk-spends 20 db n (pos 9223372036854775807) (state shape.pages None) shape.pages (omega arith)))

@@ -3,7 +3,7 @@
 // The rows are gone along once more behind the walk, with nothing of it checked again.
 #![tactic(auto)]
 
-ghost use Rattle.std.specs.Prelude.{◌≡◌};
+ghost use Rattle.std.specs.Prelude.{◌≡◌, Ok};
 ghost use Rattle.trace.specs.declared.Table.TheVariants.{Leaf};
 ghost use Rattle.trace.specs.Table.{table_at};
 ghost use Rattle.standing.specs.Rows.{leaf_rows, all_rows};
@@ -11,21 +11,10 @@ ghost use Rattle.trust.specs.Trust.{first_refused, trust_of, trusted_count};
 
 use answers::Refusal;
 use page::Open;
-use row::FoundAnswer;
 use trace::Table;
-use walk::CountAnswer;
-
-// The first row that the guarded reading refuses.
-#[derive(Clone, Copy)]
-pub enum First {
-    None,
-    Refused(Refusal),
-}
 
 #[derive(Clone, Copy)]
 pub enum Trust {
-    // The walk's refusal.
-    Refused(Refusal),
     // So many rows, and the first that the guarded reading refuses.
     Parts { rows: usize, first: Refusal },
     // So many rows, and all of them are shown by the guarded reading.
@@ -33,88 +22,57 @@ pub enum Trust {
 }
 
 // Of the rows of a leaf.
-fn first_of(db: &[u8], opened: Open) -> First
-    requires { table_at opened.page.number db.now ≡ Leaf opened }
+fn first_of(db: &[u8], opened: Open) -> Option<Refusal>
+    requires { table_at opened.page.number db.now ≡ Ok (Leaf opened) }
     ensures { result ≡ first_refused db.now (leaf_rows opened db.now opened.cells 0) }
 {
-    let cells = opened.cells;
-    let mut i: usize = 0;
-    while i < cells {
-        let found = guarded::found_in(db, opened, i);
-        match found {
-            FoundAnswer::Refused(refusal) => {
-                return First::Refused(refusal);
-            }
-            FoundAnswer::Shown(_) => {}
+    for i in 0..opened.cells {
+        if let Err(refusal) = guarded::found_in(db, opened, i) {
+            return Some(refusal);
         }
-        i = i + 1;
     }
-    First::None
+    None
 }
 
 // Of the rows under a page.
-fn first_under(db: &[u8], page: u32, depth: usize) -> First
+fn first_under(db: &[u8], page: u32, depth: usize) -> Option<Refusal>
     ensures { result ≡ first_refused db.now (all_rows depth db.now page) }
 {
     if depth == 0 {
-        return First::None;
+        return None;
     }
-    let table = walk::table_at(db, page);
-    match table {
-        Table::Refused(_) => {
-            return First::None;
-        }
-        Table::Leaf(opened) => {
-            return first_of(db, opened);
-        }
-        Table::Interior(opened) => {
-            let cells = opened.cells;
-            let mut i: usize = 0;
-            while i < cells {
+    match walk::table_at(db, page) {
+        Err(_) => None,
+        Ok(Table::Leaf(opened)) => first_of(db, opened),
+        Ok(Table::Interior(opened)) => {
+            for i in 0..opened.cells {
                 let child = standing::child_in(db, opened, i);
-                let first = first_under(db, child, depth - 1);
-                match first {
-                    First::None => {}
-                    First::Refused(refusal) => {
-                        return First::Refused(refusal);
-                    }
+                if let Some(refusal) = first_under(db, child, depth - 1) {
+                    return Some(refusal);
                 }
-                i = i + 1;
             }
-            let child = walk::last_child(db, opened);
-            return first_under(db, child, depth - 1);
+            first_under(db, walk::last_child(db, opened), depth - 1)
         }
     }
 }
 
 // The table whose root that page is.
-pub fn of_table(db: &[u8], root: u32) -> Trust
+pub fn of_table(db: &[u8], root: u32) -> Result<Trust, Refusal>
     ensures { result ≡ trust_of root db.now }
 {
-    let counted = walk::count(db, root);
-    match counted {
-        CountAnswer::Refused(refusal) => Trust::Refused(refusal),
-        CountAnswer::Shown(rows) => {
-            let first = first_under(db, root, walk::DEPTH);
-            match first {
-                First::None => Trust::Agrees(rows),
-                First::Refused(refusal) => Trust::Parts {
-                    rows,
-                    first: refusal,
-                },
-            }
-        }
+    let rows = walk::count(db, root)?;
+    match first_under(db, root, walk::DEPTH) {
+        None => Ok(Trust::Agrees(rows)),
+        Some(first) => Ok(Trust::Parts { rows, first }),
     }
 }
 
 // How many rows it has, where both may trust all of them.
-pub fn count(db: &[u8], root: u32) -> CountAnswer
+pub fn count(db: &[u8], root: u32) -> Result<usize, Refusal>
     ensures { result ≡ trusted_count root db.now }
 {
-    let trust = of_table(db, root);
-    match trust {
-        Trust::Refused(refusal) => CountAnswer::Refused(refusal),
-        Trust::Parts { rows: _, first } => CountAnswer::Refused(first),
-        Trust::Agrees(rows) => CountAnswer::Shown(rows),
+    match of_table(db, root)? {
+        Trust::Parts { rows: _, first } => Err(first),
+        Trust::Agrees(rows) => Ok(rows),
     }
 }

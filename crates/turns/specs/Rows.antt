@@ -1,16 +1,15 @@
 -- Cells and rows as C has them, and a cursor along a row.
-use Rattle.std.specs.Prelude.{ℕ, Bool, true, false, pos}
+use Rattle.std.specs.Prelude.{ℕ, Bool, true, false, pos, Err, Ok, Result}
 use Rattle.reading.specs.declared.Reading.{Reading}
 use Rattle.answers.specs.declared.Refusal.{Refusal}
 use Rattle.columns.specs.declared.Cursor.{Cursor}
 use Rattle.cells.specs.Located.{row_number}
-use Rattle.row.specs.declared.FoundAnswer.{FoundAnswer}
-use Rattle.row.specs.declared.FoundAnswer.TheVariants as fo
 use Rattle.turns.specs.declared.types.Along.{Along}
 use Rattle.turns.specs.declared.types.Filled.{Filled}
 use Rattle.turns.specs.declared.types.Cell.{Cell}
 use Rattle.turns.specs.declared.types.Row.{Row}
 use Rattle.turns.specs.Refusals.{accepted, refused_by}
+use Rattle.row.specs.declared.FoundCell.{FoundCell}
 
 -- CURSORS
 
@@ -41,9 +40,9 @@ cell_of number columns c shortest =
 abbrev pub no_cell : Refusal → Cell
 no_cell refusal = record { refused = refused_by refusal; row = pos 0; columns = 0; along = nowhere; shortest = 0 }
 
-abbrev pub cell_by : FoundAnswer → Bool → Cell
-cell_by (fo.Refused refusal) shortest = no_cell refusal
-cell_by (fo.Shown f) shortest = cell_of f.cell.row.value f.cell.columns f.cursor (digit_of shortest)
+abbrev pub cell_by : Result FoundCell Refusal → Bool → Cell
+cell_by (Err refusal) shortest = no_cell refusal
+cell_by (Ok f) shortest = cell_of f.cell.row.value f.cell.columns f.cursor (digit_of shortest)
 
 abbrev pub no_row : Refusal → Row
 no_row refusal = record { refused = refused_by refusal; number = pos 0; columns = 0; count = 0; along = nowhere }

@@ -1,16 +1,13 @@
 -- The values that columns show as C has them. The width of an integer is told in the old reading, whose types differ by it.
-use Rattle.std.specs.Prelude.{ℕ, ℤ, pos}
+use Rattle.std.specs.Prelude.{ℕ, ℤ, pos, Err, Ok, Result}
 use Rattle.values.specs.declared.old.Value.{Value as OldValue}
 use Rattle.values.specs.declared.old.Value.TheVariants as ov
 use Rattle.values.specs.declared.file.Value.{Value as FileValue}
 use Rattle.values.specs.declared.file.Value.TheVariants as fv
-use Rattle.row_values.specs.declared.old.ValueAnswer.{ValueAnswer as OldAnswer}
-use Rattle.row_values.specs.declared.old.ValueAnswer.TheVariants as oa
-use Rattle.row_values.specs.declared.file.ValueAnswer.{ValueAnswer as FileAnswer}
-use Rattle.row_values.specs.declared.file.ValueAnswer.TheVariants as fa
 use Rattle.turns.specs.declared.types.Value.{Value}
 use Rattle.turns.specs.declared.types.Shown.{Shown}
 use Rattle.turns.specs.Refusals.{accepted, refused_by}
+use Rattle.answers.specs.declared.Refusal.{Refusal}
 
 -- EACH SORT
 
@@ -40,9 +37,9 @@ old_value (ov.F64 number bits) = real_of bits
 old_value (ov.Blob at len) = long_of 4 at len
 old_value (ov.Text at len) = long_of 3 at len
 
-abbrev pub old_shown : OldAnswer → Shown
-old_shown (oa.Refused refusal) = record { refused = refused_by refusal; value = empty }
-old_shown (oa.Shown value) = record { refused = accepted; value = old_value value }
+abbrev pub old_shown : Result OldValue Refusal → Shown
+old_shown (Err refusal) = record { refused = refused_by refusal; value = empty }
+old_shown (Ok value) = record { refused = accepted; value = old_value value }
 
 -- FILE
 
@@ -53,6 +50,6 @@ file_value (fv.Real number bits) = real_of bits
 file_value (fv.Blob at len) = long_of 4 at len
 file_value (fv.Text at len) = long_of 3 at len
 
-abbrev pub file_shown : FileAnswer → Shown
-file_shown (fa.Refused refusal) = record { refused = refused_by refusal; value = empty }
-file_shown (fa.Shown value) = record { refused = accepted; value = file_value value }
+abbrev pub file_shown : Result FileValue Refusal → Shown
+file_shown (Err refusal) = record { refused = refused_by refusal; value = empty }
+file_shown (Ok value) = record { refused = accepted; value = file_value value }

@@ -1,14 +1,13 @@
 // Cells and rows by numbers, and a cursor along a row, there and back.
 ghost use Rattle.std.specs.Prelude.{◌≡◌};
-ghost use Rattle.turns.specs.Rows.{nowhere, along_of, cursor_of, filled_of, digit_of, cell_by, no_row, row_of};
+ghost use Rattle.turns.specs.Rows.{nowhere, along_of, cursor_of, filled_of, cell_by, no_row, row_of};
 
 use crate::refusals::{no_refusal, refused_by};
 use crate::types::{Along, Cell, Filled, Row};
 use answers::Refusal;
 use columns::Cursor;
 use reading::Reading;
-use row::FoundAnswer;
-use varint::Number;
+use row::FoundCell;
 
 // CURSORS
 
@@ -59,35 +58,24 @@ pub fn filled_of(count: usize, cursor: Cursor) -> Filled
 
 // CELLS AND ROWS
 
-fn digit(shortest: bool) -> u8
-    ensures { result ≡ digit_of shortest }
-{
-    if shortest { 1 } else { 0 }
-}
-
-pub fn cell_by(answer: FoundAnswer, shortest: bool) -> Cell
+pub fn cell_by(answer: Result<FoundCell, Refusal>, shortest: bool) -> Cell
     ensures { result ≡ cell_by answer shortest }
 {
     match answer {
-        FoundAnswer::Refused(refusal) => Cell {
+        Err(refusal) => Cell {
             refused: refused_by(refusal),
             row: 0,
             columns: 0,
             along: no_cursor(),
             shortest: 0,
         },
-        FoundAnswer::Shown(found) => {
-            let cell: cell::Cell = found.cell;
-            let row: Number = cell.row;
-            let cursor = found.cursor;
-            Cell {
-                refused: no_refusal(),
-                row: fields::signed_of(row.value),
-                columns: cell.columns,
-                along: along_of(cursor),
-                shortest: digit(shortest),
-            }
-        }
+        Ok(found) => Cell {
+            refused: no_refusal(),
+            row: fields::signed_of(found.cell.row.value),
+            columns: found.cell.columns,
+            along: along_of(found.cursor),
+            shortest: u8::from(shortest),
+        },
     }
 }
 
@@ -108,12 +96,11 @@ pub fn no_row(refusal: Refusal) -> Row
 pub fn row_of(number: u64, columns: usize, filled: Filled) -> Row
     ensures { result ≡ row_of number columns filled }
 {
-    let along = filled.along;
     Row {
         refused: no_refusal(),
         number: fields::signed_of(number),
         columns,
         count: filled.count,
-        along,
+        along: filled.along,
     }
 }

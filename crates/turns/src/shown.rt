@@ -4,7 +4,7 @@ ghost use Rattle.turns.specs.Shown.{empty, integer_of, real_of, long_of, old_val
 
 use crate::refusals::{no_refusal, refused_by};
 use crate::types::{Shown, Value};
-use values::narrow::{from_i8, from_i16, from_i32};
+use answers::Refusal;
 
 // Null, and what stands where no value is shown.
 pub fn empty_value() -> Value
@@ -65,25 +65,25 @@ pub fn old_value(value: values::old::Value) -> Value
 {
     match value {
         values::old::Value::Null => empty_value(),
-        values::old::Value::I8(z) => integer_of(8, from_i8(z)),
-        values::old::Value::I16(z) => integer_of(16, from_i16(z)),
-        values::old::Value::I32(z) => integer_of(32, from_i32(z)),
+        values::old::Value::I8(z) => integer_of(8, i64::from(z)),
+        values::old::Value::I16(z) => integer_of(16, i64::from(z)),
+        values::old::Value::I32(z) => integer_of(32, i64::from(z)),
         values::old::Value::I64(z) => integer_of(64, z),
-        values::old::Value::F64 { number: _, bits } => real_of(bits),
+        values::old::Value::F64 { bits, .. } => real_of(bits),
         values::old::Value::Blob { at, len } => long_of(4, at, len),
         values::old::Value::Text { at, len } => long_of(3, at, len),
     }
 }
 
-pub fn old_shown(answer: row_values::old::ValueAnswer) -> Shown
+pub fn old_shown(answer: Result<values::old::Value, Refusal>) -> Shown
     ensures { result ≡ old_shown answer }
 {
     match answer {
-        row_values::old::ValueAnswer::Refused(refusal) => Shown {
+        Err(refusal) => Shown {
             refused: refused_by(refusal),
             value: empty_value(),
         },
-        row_values::old::ValueAnswer::Shown(value) => Shown {
+        Ok(value) => Shown {
             refused: no_refusal(),
             value: old_value(value),
         },
@@ -96,21 +96,21 @@ pub fn file_value(value: values::file::Value) -> Value
     match value {
         values::file::Value::Null => empty_value(),
         values::file::Value::Integer(z) => integer_of(0, z),
-        values::file::Value::Real { number: _, bits } => real_of(bits),
+        values::file::Value::Real { bits, .. } => real_of(bits),
         values::file::Value::Blob { at, len } => long_of(4, at, len),
         values::file::Value::Text { at, len } => long_of(3, at, len),
     }
 }
 
-pub fn file_shown(answer: row_values::file::ValueAnswer) -> Shown
+pub fn file_shown(answer: Result<values::file::Value, Refusal>) -> Shown
     ensures { result ≡ file_shown answer }
 {
     match answer {
-        row_values::file::ValueAnswer::Refused(refusal) => Shown {
+        Err(refusal) => Shown {
             refused: refused_by(refusal),
             value: empty_value(),
         },
-        row_values::file::ValueAnswer::Shown(value) => Shown {
+        Ok(value) => Shown {
             refused: no_refusal(),
             value: file_value(value),
         },

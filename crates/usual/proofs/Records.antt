@@ -6,7 +6,6 @@ use mathlib.Core.Bool.{Bool, true}
 use native.Mathlib.Omega.{arith}
 use lib.ListN.{length, take, drop, get_or, length-drop}
 use Rattle.varint.specs.declared.Number.{Number}
-use Rattle.varint.specs.declared.Varint.TheVariants as vi
 use Rattle.varint.specs.Varint.{number, varint_of}
 use Rattle.varint.proofs.Laws.{one_byte, length-bounds, longer-limit}
 use Rattle.reading.specs.declared.Reading.{Reading}
@@ -14,23 +13,23 @@ use Rattle.reading.specs.declared.Reading.TheVariants.{Old as old, File as file}
 use Rattle.reading.specs.Reading.{limit}
 use Rattle.reading.proofs.Laws.{takes-five}
 use Rattle.record.specs.declared.Laid.TheVariants.{Ends}
-use Rattle.record.specs.declared.Fit.TheVariants.{Fits}
 use Rattle.record.specs.Types.{Types, types_of, count, walk}
 use Rattle.record.specs.Record.{counted, judged, fitted}
 use Rattle.record.proofs.Count.{fits_count}
-use Rattle.record.proofs.Stages.{fit-laid, judged-file}
+use Rattle.record.proofs.Stages.{fit-laid, judged-file, judged-old}
 use Rattle.record.proofs.Accepted.{accepted, record-again}
 use Rattle.kinds.specs.declared.Kind.TheVariants.{LeafTable}
-use Rattle.cell.specs.declared.Payload.TheVariants as pa
 use Rattle.kinds.specs.Kind.{most_whole}
 use Rattle.cell.specs.Cell.{payload_in}
 use Rattle.cell.proofs.Inside.{inside}
 use Rattle.cell.proofs.Leaf.{leaf_numbers, leaf-again}
-use Rattle.layout.specs.declared.Layout.TheVariants as ly
 use Rattle.usual.specs.declared.Span.{Span}
 use Rattle.layout.specs.Lying.{Lying, Clean}
 use Rattle.usual.specs.Short.{Head, Start}
 use Rattle.layout.proofs.Types.{clear-clean}
+use Rattle.layout.specs.Lying.{laid_out}
+use Rattle.record.specs.Record.{fits_with}
+use Rattle.std.specs.Prelude.{Ok}
 
 -- a header size counts its one byte, in either reading
 counted-one : (r : Reading) → counted r 1 ≡ 1
@@ -38,7 +37,7 @@ counted-one old = refl
 counted-one file = refl
 
 -- values that fill the payload fit in the file reading, too
-pub filled : {r : Reading} → r ≡ file → (ts : Types) (n : ℕ) {left : ℕ} → left ≡ 0 → judged r ts (Ends n left) ≡ Fits n left
+pub filled : {r : Reading} → r ≡ file → (ts : Types) (n : ℕ) {left : ℕ} → left ≡ 0 → judged r ts (Ends n left) ≡ fits_with n left
 filled f ts n e = judged-file f ts _ ∙ rw e
 
 module _ (g : Bool) (r : Reading) (q : List ℕ) (n left : ℕ) where
@@ -49,12 +48,12 @@ module _ (g : Bool) (r : Reading) (q : List ℕ) (n left : ℕ) where
   ts = types_of (limit r) (take (size - 1) (drop 1 q))
 
   module _ (some : 0 < length q) (byte : size < 128) (low : 1 ≤ size) (fit : size ≤ length q) where
-    pub head : Lying g (length q - size) ts (ly.Fits n left) → judged r ts (Ends n left) ≡ Fits n left → Head g r q size n
+    pub head : Lying g (length q - size) ts (laid_out n left) → judged r ts (Ends n left) ≡ fits_with n left → Head g r q size n
     head l j =
         let c = counted-one r in
         let room : length q - 1 - (size - 1) ≡ length q - size = omega arith in
         let here : size - 1 ≤ length (drop 1 q) = rw length-drop (omega arith) in
-        let whole : fitted r (counted r 1) size (drop 1 q) ≡ Fits n left =
+        let whole : fitted r (counted r 1) size (drop 1 q) ≡ fits_with n left =
         fit-laid r (counted r 1) size (drop 1 q) (rw c low) (rw c here) ∙ rw (c, length-drop, room, l.0) j in
         let m : n ≡ count ts = rw c at (fits_count r (counted r 1) size (drop 1 q) whole) in
         record {
@@ -79,11 +78,18 @@ pub head_filled : (g : Bool) (r : Reading) (q : List ℕ) (n : ℕ) → r ≡ fi
     → 0 < length q → get_or q 0 0 < 128 → 1 ≤ get_or q 0 0 → get_or q 0 0 ≤ length q → Head g r q (get_or q 0 0) n
 head_filled g r q n f w clean some byte low fit = head g r q n 0 some byte low fit (w, clean) (filled f (ts g r q n 0) n refl)
 
+-- of values that leave bytes over in the old reading
+pub head_old : (g : Bool) (r : Reading) (q : List ℕ) (n left : ℕ) → r ≡ old
+    → walk 0 (length q - get_or q 0 0) (types_of (limit r) (take (get_or q 0 0 - 1) (drop 1 q))) ≡ Ends n left
+    → (g ≡ true → Clean (types_of (limit r) (take (get_or q 0 0 - 1) (drop 1 q))))
+    → 0 < length q → get_or q 0 0 < 128 → 1 ≤ get_or q 0 0 → get_or q 0 0 ≤ length q → Head g r q (get_or q 0 0) n
+head_old g r q n left o w clean some byte low fit = head g r q n left some byte low fit (w, clean) (judged-old o _ _)
+
 -- THE ROW, its numbers before the record
 
 module _ (g : Bool) (r : Reading) (u : ℕ) (s : List ℕ) where
-  pub start : {size key : Number} {n h columns : ℕ} → varint_of 5 s ≡ vi.Value size → varint_of 5 (drop size.length s) ≡ vi.Value key
-      → payload_in r (most_whole LeafTable u) size.value (drop (size.length + key.length) s) ≡ pa.Whole n
+  pub start : {size key : Number} {n h columns : ℕ} → varint_of 5 s ≡ Ok size → varint_of 5 (drop size.length s) ≡ Ok key
+      → payload_in r (most_whole LeafTable u) size.value (drop (size.length + key.length) s) ≡ Ok n
       → Head g r (take n (drop (size.length + key.length) s)) h columns
       → Start g r u s (record { number = key.value; columns = columns; from = size.length + key.length; payload = n; header = h })
   start {size} {key} {n} {h} e f pay hd =

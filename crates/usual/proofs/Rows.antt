@@ -9,7 +9,6 @@ use borrow.Author.Tests.{le-ltb, lt-leb}
 use Rattle.fields.specs.Fields.{unsigned}
 use Rattle.reading.specs.declared.Reading.{Reading}
 use Rattle.reading.specs.declared.Reading.TheVariants.{Old as old, File as file}
-use Rattle.answers.specs.Answer.{shown}
 use Rattle.record.specs.Types.{count}
 use Rattle.record.specs.Record.{values_at}
 use Rattle.kinds.specs.declared.Kind.TheVariants.{LeafTable}
@@ -27,10 +26,12 @@ use Rattle.cells.specs.Located.{Located}
 use Rattle.cells.proofs.Laws.{held-again}
 use Rattle.row.specs.Found.{found_by}
 use Rattle.guarded.proofs.Guard.{guarded-again}
-use Rattle.usual.specs.declared.RowAnswer.TheVariants.{Shown}
+use Rattle.usual.specs.declared.Row.{Row}
 use Rattle.usual.specs.declared.Span.{Span}
 use Rattle.usual.specs.Usual.{found_in, row_by, row_in}
 use Rattle.usual.specs.Short.{Start}
+use Rattle.std.specs.Prelude.{Ok}
+use Rattle.usual.specs.Usual.{row_with}
 
 -- WHERE A TABLE LEAF LIES
 
@@ -58,6 +59,12 @@ pub row-found : (g : Bool) (o : Open) (i : ℕ) (db : List ℕ) → row_in g o i
 unfolding row_in
 row-found g o i db = refl
 
+-- a row is told by its parts
+pub row-parts : {n k m j : ℕ} {c d : Cursor} → row_with n k c ≡ row_with m j d → (n ≡ m) × (k ≡ j) × (c ≡ d)
+row-parts {n} {k} {m} {j} {c} {d} e =
+    let f : ◌≡◌ {A = Row} (record { number = n; columns = k; cursor = c }) (record { number = m; columns = j; cursor = d }) = cc in
+    (ap (λ y. y.number) f, ap (λ y. y.columns) f, ap (λ y. y.cursor) f)
+
 -- behind the pointers and before the end, no reading finds a pointer outside
 not-outside : (r : Reading) (o : Open) (p : ℕ) → o.from ≤ p → pointers_end o.from o.kind o.cells ≤ p → p < o.end → outside r o p ≡ false
 not-outside old o p h l m = rw (le-ltb o.end p (omega arith), le-ltb p o.from h)
@@ -76,7 +83,7 @@ cursor o p x =
 
 row_told : (x : Span) (l : Located) → l.cell.row.value ≡ x.number → count l.cell.types ≡ x.columns → l.cell.numbers.length ≡ x.from
     → l.cell.payload ≡ x.payload → l.cell.header.length ≡ 1 → values_at l.opened.page.reading l.cell.header ≡ x.header
-    → row_by (found_by (shown l)) ≡ Shown x.number x.columns (cursor l.opened l.pointer x)
+    → row_by (found_by (Ok l)) ≡ row_with x.number x.columns (cursor l.opened l.pointer x)
 row_told x l number columns from payload own values = rw (number, columns, from, payload, values, own)
 
 module _ (g : Bool) (o : Open) (i : ℕ) (db : List ℕ) (kind : o.kind ≡ LeafTable) (lies : lies_in (length db) o ≡ true) (below : i < o.cells) where
@@ -88,7 +95,7 @@ module _ (g : Bool) (o : Open) (i : ℕ) (db : List ℕ) (kind : o.kind ≡ Leaf
     abbrev l : Located
     l = record { opened = o; pointer = p; cell = b.cell }
 
-    located : cells.located_in o i db ≡ shown l
+    located : cells.located_in o i db ≡ Ok l
     located =
         let h : o.from ≤ p = omega arith in
         held-again o i db
@@ -102,9 +109,9 @@ module _ (g : Bool) (o : Open) (i : ℕ) (db : List ℕ) (kind : o.kind ≡ Leaf
           cell = ap (λ k. cell_of o.page.reading k o.end (part_at o p page)) kind ∙ b.is;
         })
 
-    found : (h : Bool) → g ≡ h → found_in h o i db ≡ found_by (shown l)
+    found : (h : Bool) → g ≡ h → found_in h o i db ≡ found_by (Ok l)
     found true e = ap found_by (guarded-again o i db (record { leaf = kind; located = located; clear = b.clean e }))
     found false e = ap found_by located
 
-    pub says : row_in g o i db ≡ Shown x.number x.columns (cursor o p x)
+    pub says : row_in g o i db ≡ row_with x.number x.columns (cursor o p x)
     says = row-found g o i db ∙ rw (found g refl) (row_told x l b.number b.columns b.from b.payload b.own b.values)

@@ -21,10 +21,10 @@ pub fn value_of(serial: u64, part: &[u8], at: usize) -> Value
 {
     match serial {
         0 => Value::Null,
-        1 => Value::Integer(be_i8(part) as i64),
-        2 => Value::Integer(be_i16(part) as i64),
-        3 => Value::Integer(be_i24(part) as i64),
-        4 => Value::Integer(be_i32(part) as i64),
+        1 => Value::Integer(i64::from(be_i8(part))),
+        2 => Value::Integer(i64::from(be_i16(part))),
+        3 => Value::Integer(i64::from(be_i24(part))),
+        4 => Value::Integer(i64::from(be_i32(part))),
         5 => Value::Integer(be_i48(part)),
         6 => Value::Integer(be_i64(part)),
         7 => {

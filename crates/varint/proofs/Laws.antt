@@ -11,10 +11,10 @@ use lib.ListN.{length, drop, get_or}
 use lib.Seq.{drop-append-le}
 use Rattle.laws.proofs.Powers.{digit-more, digits-within}
 use Rattle.varint.specs.declared.Number.{Number}
-use Rattle.varint.specs.declared.Varint.TheVariants.{Value}
 use Rattle.varint.specs.Varint.{number, varint_of}
 use Rattle.varint.proofs.Steps as Steps
 use Rattle.varint.proofs.Found.{Reads, ninth, last, next, found, is_found}
+use Rattle.std.specs.Prelude.{Ok}
 
 took : {x : Number} {k n v : ℕ} {s : List ℕ} → n ≤ 8 → Reads x k n v s → (n < x.length) × (x.length ≤ n + k) × (x.length ≤ n + length s) × (x.length ≤ 9)
 took l (ninth h p) = let q = ap (λ y. y.length) p in omega arith
@@ -47,38 +47,38 @@ small {n = n} l b (last h c p) = rw (← p) (digit-more 128 n b c)
 small {n = n} l b (next h c r) = small (omega arith) (digit-more 128 n b (omega arith)) r
 
 -- a byte whose top bit is clear is a number
-pub one_byte : (s : List ℕ) (limit : ℕ) → 1 ≤ limit → 0 < length s → get_or s 0 0 < 128 → varint_of limit s ≡ Value (number (get_or s 0 0) 1)
+pub one_byte : (s : List ℕ) (limit : ℕ) → 1 ≤ limit → 0 < length s → get_or s 0 0 < 128 → varint_of limit s ≡ Ok (number (get_or s 0 0) 1)
 one_byte s limit h l b =
     let e = Steps.last limit s 0 0 (omega arith) l (λ z. absurd (omega arith)) b in
     rw (sub-zero, zero-add) at e
 
 module _ (s : List ℕ) {n : Number} where
   -- a varint takes one byte at least, and no more than the limit, the bytes there are, and nine
-  pub length-bounds : (limit : ℕ) → varint_of limit s ≡ Value n → (1 ≤ n.length) × (n.length ≤ limit) × (n.length ≤ length s) × (n.length ≤ 9)
+  pub length-bounds : (limit : ℕ) → varint_of limit s ≡ Ok n → (1 ≤ n.length) × (n.length ≤ limit) × (n.length ≤ length s) × (n.length ≤ 9)
   length-bounds limit e = let t = took {n = 0} (omega arith) (found limit 0 0 s e) in omega arith
 
-  pub value-below : (limit : ℕ) → limit ≤ 8 → varint_of limit s ≡ Value n → n.value < 128 ^ limit
+  pub value-below : (limit : ℕ) → limit ≤ 8 → varint_of limit s ≡ Ok n → n.value < 128 ^ limit
   value-below limit h e =
       digits-within 128 n.length limit (lit< tt) (length-bounds limit e).1 (small {n = 0} (omega arith) (lit< tt) (found limit 0 0 s e))
 
-  pub longer-limit : (k j : ℕ) → k ≤ j → varint_of k s ≡ Value n → varint_of j s ≡ Value n
+  pub longer-limit : (k j : ℕ) → k ≤ j → varint_of k s ≡ Ok n → varint_of j s ≡ Ok n
   longer-limit k j h e = is_found (widened j h (found k 0 0 s e))
 
   -- two limits that both find a number find the same
-  pub same_number : (k j : ℕ) {m : Number} → k ≤ j → varint_of k s ≡ Value n → varint_of j s ≡ Value m → n ≡ m
+  pub same_number : (k j : ℕ) {m : Number} → k ≤ j → varint_of k s ≡ Ok n → varint_of j s ≡ Ok m → n ≡ m
   same_number k j h e f = let g = longer-limit k j h e in cc
 
-  pub shorter-limit : (k j : ℕ) → n.length ≤ k → varint_of j s ≡ Value n → varint_of k s ≡ Value n
+  pub shorter-limit : (k j : ℕ) → n.length ≤ k → varint_of j s ≡ Ok n → varint_of k s ≡ Ok n
   shorter-limit k j h e = is_found (narrowed k (omega arith) (omega arith) (found j 0 0 s e))
 
-  pub bytes-behind : (limit : ℕ) (z : List ℕ) → varint_of limit s ≡ Value n → varint_of limit (s ++ z) ≡ Value n
+  pub bytes-behind : (limit : ℕ) (z : List ℕ) → varint_of limit s ≡ Ok n → varint_of limit (s ++ z) ≡ Ok n
   bytes-behind limit z e = is_found (continued z (found limit 0 0 s e))
 
-  pub left_behind : (limit : ℕ) (z : List ℕ) → varint_of limit s ≡ Value n → drop n.length (s ++ z) ≡ drop n.length s ++ z
+  pub left_behind : (limit : ℕ) (z : List ℕ) → varint_of limit s ≡ Ok n → drop n.length (s ++ z) ≡ drop n.length s ++ z
   left_behind limit z e = drop-append-le n.length s z (length-bounds limit e).2
 
   -- the reading of nine bytes finds a varint of at most five exactly where that of five finds it
-  pub five-of-nine : (varint_of 5 s ≡ Value n) ↔ ((varint_of 9 s ≡ Value n) × (n.length ≤ 5))
+  pub five-of-nine : (varint_of 5 s ≡ Ok n) ↔ ((varint_of 9 s ≡ Ok n) × (n.length ≤ 5))
   five-of-nine = (
     (λ e. (longer-limit 5 9 (omega arith) e, (length-bounds 5 e).1)),
     (λ h. shorter-limit 5 9 h.1 h.0),

@@ -9,20 +9,13 @@ ghost use Rattle.std.specs.Prelude.{◌≡◌};
 ghost use Rattle.varint.specs.Varint.{varint_of};
 
 // A number, and how many bytes it took.
-#[derive(Clone, Copy)]
+#[derive(Clone, Copy, Debug, PartialEq, Eq)]
 pub struct Number {
     pub value: u64,
     pub length: usize,
 }
 
-#[derive(Clone, Copy)]
-pub enum Varint {
-    Value(Number),
-    // No number.
-    Unfinished(Cause),
-}
-
-#[derive(Clone, Copy)]
+#[derive(Clone, Copy, Debug, PartialEq, Eq)]
 pub enum Cause {
     // The bytes end before the number does.
     CutShort,
@@ -38,47 +31,43 @@ pub const FILE_LIMIT: usize = 9;
 
 // Reads the varint of at most `limit` bytes at the slice's first byte. Most varints are one byte, which is looked at here,
 // so that a caller has it at no cost.
-pub fn read(s: &[u8], limit: usize) -> Varint
+pub fn read(s: &[u8], limit: usize) -> Result<Number, Cause>
     ensures { result ≡ varint_of limit s.now }
 {
-    if limit == 0 {
+    let Some(&byte) = s.first() else {
+        return read_on(s, limit);
+    };
+    if limit == 0 || 128 <= byte {
         return read_on(s, limit);
     }
-    if s.len() == 0 {
-        return read_on(s, limit);
-    }
-    let b = s[0] as u64;
-    if 128 <= b {
-        return read_on(s, limit);
-    }
-    Varint::Value(Number {
-        value: b,
+    Ok(Number {
+        value: u64::from(byte),
         length: 1,
     })
 }
 
 // The same, byte by byte.
-fn read_on(s: &[u8], limit: usize) -> Varint
+fn read_on(s: &[u8], limit: usize) -> Result<Number, Cause>
     ensures { result ≡ varint_of limit s.now }
 {
     let mut value: u64 = 0;
     let mut i: usize = 0;
     loop {
         if limit <= i {
-            break Varint::Unfinished(Cause::WithoutEnd);
+            break Err(Cause::WithoutEnd);
         }
-        if s.len() <= i {
-            break Varint::Unfinished(Cause::CutShort);
-        }
-        let b = s[i] as u64;
+        let Some(&byte) = s.get(i) else {
+            break Err(Cause::CutShort);
+        };
+        let b = u64::from(byte);
         if i == 8 {
-            break Varint::Value(Number {
+            break Ok(Number {
                 value: value * 256 + b,
                 length: 9,
             });
         }
         if b < 128 {
-            break Varint::Value(Number {
+            break Ok(Number {
                 value: value * 128 + b,
                 length: i + 1,
             });

@@ -5,79 +5,52 @@
 #![tactic(auto)]
 
 ghost use Rattle.std.specs.Prelude.{◌≡◌};
-ghost use Rattle.answers.specs.declared.Reason.TheVariants.{IndexPage};
-ghost use Rattle.trace.specs.Table.{no_table, table_by, table_at, entered, last_child};
+ghost use Rattle.trace.specs.Table.{table_by, table_at, entered, last_child};
 ghost use Rattle.trace.specs.Tree.{leaf_of, walk_of};
-ghost use Rattle.trace.specs.Counted.{more, counted};
+ghost use Rattle.trace.specs.Counted.{counted};
 ghost use Rattle.walk.specs.Counted.{count_of};
 
 use answers::{Reason, Refusal};
-use keys::KeyAnswer;
 use kinds::Kind;
-use order::{Down, Low, child_placed, key_placed};
-use page::{Open, OpenAnswer};
-use place::Page;
+use order::Down;
+use page::Open;
 use reading::Reading;
-use shape::ShapeAnswer;
 use trace::{State, Table, Walked};
 
 // How many pages deep a table is at most; its root is the first.
 pub const DEPTH: usize = 20;
 
-// How many rows a table has.
-#[derive(Clone, Copy)]
-pub enum CountAnswer {
-    Shown(usize),
-    Refused(Refusal),
-}
-
 // PAGES
 
 // What a page is to a walk.
-fn table_of(opened: Open) -> Table
+fn table_of(opened: Open) -> Result<Table, Refusal>
     ensures { result ≡ table_by opened.kind opened }
 {
-    let kind = opened.kind;
-    match kind {
-        Kind::InteriorIndex => index_page(opened.page),
-        Kind::LeafIndex => index_page(opened.page),
-        Kind::InteriorTable => Table::Interior(opened),
-        Kind::LeafTable => Table::Leaf(opened),
+    match opened.kind {
+        Kind::InteriorTable => Ok(Table::Interior(opened)),
+        Kind::LeafTable => Ok(Table::Leaf(opened)),
+        Kind::InteriorIndex | Kind::LeafIndex => Err(opened.page.refusal(Reason::IndexPage)),
     }
-}
-
-fn index_page(page: Page) -> Table
-    ensures { result ≡ no_table page.number IndexPage }
-{
-    no_table(page.number, Reason::IndexPage)
-}
-
-fn no_table(page: u32, reason: Reason) -> Table
-    ensures { result ≡ no_table page reason }
-{
-    Table::Refused(Refusal::OnPage { page, reason })
 }
 
 // A page of a table, opened.
-pub fn table_at(db: &[u8], page: u32) -> Table
+#[tactic(auto, unfolding(trace::specs::Table::table_at))]
+pub fn table_at(db: &[u8], page: u32) -> Result<Table, Refusal>
     ensures { result ≡ table_at page db.now }
 {
-    let opening = page::open_page(db, place::file(page));
-    match opening {
-        OpenAnswer::Refused(refusal) => Table::Refused(refusal),
-        OpenAnswer::Shown(opened) => table_of(opened),
-    }
+    table_of(page::open_page(db, place::file(page))?)
 }
 
 // A page that is due, where as many visits are left and it may be as deep.
-fn enter(db: &[u8], page: u32, depth: usize, visits: usize) -> Table
+#[tactic(auto, unfolding(trace::specs::Table::entered))]
+fn enter(db: &[u8], page: u32, depth: usize, visits: usize) -> Result<Table, Refusal>
     ensures { result ≡ entered depth visits page db.now }
 {
     if visits == 0 {
-        return no_table(page, Reason::VisitsUsedUp);
+        return Err(place::file(page).refusal(Reason::VisitsUsedUp));
     }
     if depth == 0 {
-        return no_table(page, Reason::TooDeep);
+        return Err(place::file(page).refusal(Reason::TooDeep));
     }
     table_at(db, page)
 }
@@ -92,112 +65,60 @@ pub fn last_child(db: &[u8], opened: Open) -> u32
 
 // THE WALK
 
-// One more, as far as it can be counted.
-fn more_than(count: usize) -> usize
-    ensures { result ≡ more count }
-{
-    if count < 0xffff_ffff_ffff_ffff {
-        return count + 1;
-    }
-    count
-}
-
-// The cells of a leaf.
-fn leaf(db: &[u8], opened: Open, most: i64, state: State, count: usize) -> Walked
+// The cells of a leaf. The count stops at the largest number that it can hold.
+fn leaf(db: &[u8], opened: Open, most: i64, state: State, count: usize) -> Result<Walked, Refusal>
     ensures { result ≡ counted count (leaf_of opened db.now most opened.cells 0 state) }
 {
-    let cells = opened.cells;
-    let visits = state.visits;
     let mut low = state.low;
     let mut n = count;
-    let mut i: usize = 0;
-    while i < cells {
-        let placed = key_placed(db, opened, i, low, most);
-        match placed {
-            KeyAnswer::Refused(refusal) => {
-                return Walked::Refused(refusal);
-            }
-            KeyAnswer::Shown(number) => {
-                low = Low::Above(number);
-            }
-        }
-        n = more_than(n);
-        i = i + 1;
+    for i in 0..opened.cells {
+        low = Some(order::key_placed(db, opened, i, low, most)?);
+        n = n.saturating_add(1);
     }
-    Walked::Done {
-        state: State { visits, low },
+    Ok(Walked {
+        state: State { low, ..state },
         count: n,
-    }
+    })
 }
 
 // The table under a page whose numbers are at most `most`, at most `depth` pages deep.
-fn walk(db: &[u8], page: u32, most: i64, depth: usize, state: State, count: usize) -> Walked
+fn walk(
+    db: &[u8],
+    page: u32,
+    most: i64,
+    depth: usize,
+    state: State,
+    count: usize,
+) -> Result<Walked, Refusal>
     ensures { result ≡ counted count (walk_of depth db.now page most state) }
 {
-    let mut visits = state.visits;
+    let table = enter(db, page, depth, state.visits)?;
+    let mut visits = state.visits - 1;
     let mut low = state.low;
-    let table = enter(db, page, depth, visits);
-    match table {
-        Table::Refused(refusal) => {
-            return Walked::Refused(refusal);
-        }
-        Table::Leaf(opened) => {
-            visits = visits - 1;
-            return leaf(db, opened, most, State { visits, low }, count);
-        }
-        Table::Interior(opened) => {
-            visits = visits - 1;
-            let cells = opened.cells;
-            let mut n = count;
-            let mut i: usize = 0;
-            while i < cells {
-                let down = child_placed(db, opened, i, low, most);
-                match down {
-                    Down::Refused(refusal) => {
-                        return Walked::Refused(refusal);
-                    }
-                    Down::To { child, key } => {
-                        let below = walk(db, child, key, depth - 1, State { visits, low }, n);
-                        match below {
-                            Walked::Refused(refusal) => {
-                                return Walked::Refused(refusal);
-                            }
-                            Walked::Done {
-                                state: after,
-                                count: m,
-                            } => {
-                                visits = after.visits;
-                                low = Low::Above(key);
-                                n = m;
-                            }
-                        }
-                    }
-                }
-                i = i + 1;
-            }
-            let child = last_child(db, opened);
-            return walk(db, child, most, depth - 1, State { visits, low }, n);
-        }
+    let opened = match table {
+        Table::Leaf(opened) => return leaf(db, opened, most, State { visits, low }, count),
+        Table::Interior(opened) => opened,
+    };
+    let mut n = count;
+    for i in 0..opened.cells {
+        let Down { child, key } = order::child_placed(db, opened, i, low, most)?;
+        let below = walk(db, child, key, depth - 1, State { visits, low }, n)?;
+        visits = below.state.visits;
+        low = Some(key);
+        n = below.count;
     }
+    let child = last_child(db, opened);
+    walk(db, child, most, depth - 1, State { visits, low }, n)
 }
 
 // The rows of the table whose root that page is, counted once all of it is checked.
-pub fn count(db: &[u8], root: u32) -> CountAnswer
+pub fn count(db: &[u8], root: u32) -> Result<usize, Refusal>
     ensures { result ≡ count_of root db.now }
 {
-    let shaped = shape::shape_of(db, Reading::File);
-    match shaped {
-        ShapeAnswer::Refused(flaw) => CountAnswer::Refused(Refusal::OfDatabase(flaw)),
-        ShapeAnswer::Shown(shape) => {
-            let start = State {
-                visits: shape.pages,
-                low: Low::Any,
-            };
-            let walked = walk(db, root, 0x7fff_ffff_ffff_ffff, DEPTH, start, 0);
-            match walked {
-                Walked::Refused(refusal) => CountAnswer::Refused(refusal),
-                Walked::Done { state: _, count } => CountAnswer::Shown(count),
-            }
-        }
-    }
+    let shape = shape::shape_of(db, Reading::File)?;
+    let start = State {
+        visits: shape.pages,
+        low: None,
+    };
+    Ok(walk(db, root, i64::MAX, DEPTH, start, 0)?.count)
 }

@@ -17,7 +17,8 @@ use turns::types::{Refused, Shown, Value};
 
 // How many values a table of so many words has places for.
 pub fn places_of(words: usize) -> usize
-    ensures { (result ≡ words / 5) × (5 * result < 2 ^ 64) }
+    ensures places { result ≡ words / 5 }
+    ensures room { 5 * result < 2 ^ 64 }
 {
     words / 5
 }
@@ -33,49 +34,44 @@ pub fn value_at(db: &[u8], reading: Reading, serial: u64, at: usize) -> Value
 }
 
 // Stores a value in its place.
+#[tactic(auto, unfolding(crate::specs::Laid::laid_in))]
 pub fn put_value(place: &mut [i64], value: Value)
     ensures { place.new ≡ laid_in place.old (words_of value) }
 {
     if place.len() < 5 {
         return;
     }
-    let kind = signed_of(value.kind as u64 + 256 * (value.width as u64));
-    let integer = value.integer;
-    let bits = signed_of(value.bits);
-    let at = signed_of(value.at as u64);
-    let len = signed_of(value.len as u64);
-    place[0] = kind;
-    place[1] = integer;
-    place[2] = bits;
-    place[3] = at;
-    place[4] = len;
+    place[0] = signed_of(u64::from(value.kind) + 256 * u64::from(value.width));
+    place[1] = value.integer;
+    place[2] = signed_of(value.bits);
+    place[3] = signed_of(value.at as u64);
+    place[4] = signed_of(value.len as u64);
 }
 
+#[tactic(auto, unfolding(crate::specs::Laid::laid_in))]
 fn put_refused(place: &mut [i64], refused: Refused)
     ensures { place.new ≡ laid_in place.old (refused_words refused) }
 {
     if place.len() < 3 {
         return;
     }
-    let number = signed_of(
-        refused.number as u64 + 256 * (refused.mark as u64) + 4_294_967_296 * (refused.page as u64),
+    place[0] = signed_of(
+        u64::from(refused.number)
+            + 256 * u64::from(refused.mark)
+            + 4_294_967_296 * u64::from(refused.page),
     );
-    let cell = signed_of(refused.cell as u64);
-    let column = signed_of(refused.column as u64);
-    place[0] = number;
-    place[1] = cell;
-    place[2] = column;
+    place[1] = signed_of(refused.cell as u64);
+    place[2] = signed_of(refused.column as u64);
 }
 
 // Stores an answer in its place.
+#[tactic(auto, unfolding(crate::specs::Laid::laid_in))]
 pub fn put_shown(place: &mut [i64], shown: Shown)
     ensures { place.new ≡ laid_in place.old (shown_words shown) }
 {
     if place.len() < 8 {
         return;
     }
-    let refused: Refused = shown.refused;
-    let value: Value = shown.value;
-    put_refused(&mut place[0..3], refused);
-    put_value(&mut place[3..8], value);
+    put_refused(&mut place[..3], shown.refused);
+    put_value(&mut place[3..8], shown.value);
 }

@@ -1,44 +1,46 @@
 -- The payload is the part that `payload_of` finds, the record what the record reader says of it, and the row number stands
 -- behind that or among the numbers.
 use mathlib.Core.Path.{sym, ◌∙◌}
-use native.Mathlib.Omega.{arith}
-use native.Mathlib.Nat.{sub-zero}
 use lib.ListN.{take}
+use Rattle.std.proofs.lemmas.Result.{err_from_is_err_and}
+use Rattle.answers.specs.declared.Fault.TheVariants as fa
 use Rattle.record.specs.Record.{record_of}
 use Rattle.record.proofs.Kept.{faulted, kept}
 use Rattle.cell.specs.Cell.{behind}
-use Rattle.cell.proofs.Laws.{payload-within}
+use Rattle.cell.proofs.Laws.{found-or}
 use Rattle.cell.proofs.behind_of.Goals as goal
 
-pub returns-in-Faulty : goal.returns-in-Faulty
+pub returns-in_err-payload : goal.returns-in_err-payload
 unfolding behind
-returns-in-Faulty c = rw (sym (rw c.most_whole.ensures at c.payload_of-payload.ensures) ∙ c.in-Faulty.is)
+returns-in_err-payload c =
+    let paid = sym (rw c.most_whole.ensures at c.payload_of.ensures) ∙ c.in_err-payload.was in
+    let p = err_from_is_err_and c.from_residual.result c.from_residual.ensures.1 in
+    rw (p.1, p.2, paid)
 
-pub slice_bounds-q-count : goal.slice_bounds-q-count
-slice_bounds-q-count c =
-    let l = payload-within c.args.reading c.most_whole.result c.args.numbers.size.value c.args.s.now (sym c.payload_of-payload.ensures ∙ c.in-Whole.is) in
-    omega arith
-
-pub returns-in-Faulty-shown : goal.returns-in-Faulty-shown
+pub returns-in_err-record : goal.returns-in_err-record
 unfolding behind
-returns-in-Faulty-shown c =
+returns-in_err-record c =
     let a = c.args in
-    let paid = sym (rw c.most_whole.ensures at c.payload_of-payload.ensures) ∙ c.in-Whole.is in
-    let q = take c.in-Whole.n a.s.now in
-    rw (paid, faulted a.reading (record_of a.reading q) (sym (rw sub-zero at c.record_of-shown.ensures) ∙ c.in-Faulty-shown.is))
+    let paid = sym (rw c.most_whole.ensures at c.payload_of.ensures) ∙ c.in_ok-payload.was in
+    let p = err_from_is_err_and c.from_residual-in_err-record.result c.from_residual-in_err-record.ensures.1 in
+    let read = faulted a.reading (record_of a.reading (take c.in_ok-payload.payload a.s.now)) (sym c.record_of.ensures ∙ c.in_err-record.was) in
+    rw (p.1, p.2, paid, read)
 
-pub returns-in_default : goal.returns-in_default
+pub returns-in_err-row : goal.returns-in_err-row
 unfolding behind
-returns-in_default c =
+returns-in_err-row c =
     let a = c.args in
-    let paid = sym (rw c.most_whole.ensures at c.payload_of-payload.ensures) ∙ c.in-Whole.is in
-    let x = kept a.reading (record_of a.reading (take c.in-Whole.n a.s.now)) (sym (rw sub-zero at c.record_of-shown.ensures) ∙ c.in-Whole-shown.is) in
-    rw (paid, x.is, sym (rw sub-zero at c.closing_in.ensures) ∙ c.in_default.is)
+    let paid = sym (rw c.most_whole.ensures at c.payload_of.ensures) ∙ c.in_ok-payload.was in
+    let x = kept a.reading (record_of a.reading (take c.in_ok-payload.payload a.s.now)) (sym c.record_of.ensures ∙ c.in_ok-record.was) in
+    let row = sym (found-or fa.ClosingCut c.closing_in.result) ∙ sym c.or.ensures ∙ c.in_err-row.was in
+    let p = err_from_is_err_and c.from_residual-in_err-row.result c.from_residual-in_err-row.ensures.1 in
+    rw (p.1, p.2, paid, x.is, rw c.closing_in.ensures at row)
 
-pub returns-in-Whole-shown : goal.returns-in-Whole-shown
+pub returns : goal.returns
 unfolding behind
-returns-in-Whole-shown c =
+returns c =
     let a = c.args in
-    let paid = sym (rw c.most_whole.ensures at c.payload_of-payload.ensures) ∙ c.in-Whole.is in
-    let x = kept a.reading (record_of a.reading (take c.in-Whole.n a.s.now)) (sym (rw sub-zero at c.record_of-shown.ensures) ∙ c.in-Whole-shown.is) in
-    rw (paid, x.is, sym (rw sub-zero at c.closing_in.ensures) ∙ c.in-Value.is, x.counted, x.begin)
+    let paid = sym (rw c.most_whole.ensures at c.payload_of.ensures) ∙ c.in_ok-payload.was in
+    let x = kept a.reading (record_of a.reading (take c.in_ok-payload.payload a.s.now)) (sym c.record_of.ensures ∙ c.in_ok-record.was) in
+    let row = sym (found-or fa.ClosingCut c.closing_in.result) ∙ sym c.or.ensures ∙ c.in_ok-row.was in
+    rw (paid, x.is, rw c.closing_in.ensures at row, x.counted, x.begin)

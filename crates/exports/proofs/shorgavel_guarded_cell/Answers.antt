@@ -1,6 +1,5 @@
 -- The guarded cell, turned.
 use Rattle.std.proofs.Common.{ap, ◌∙◌}
-use Rattle.row.specs.declared.FoundAnswer.{FoundAnswer}
 use Rattle.row.specs.Found.{found_by}
 use Rattle.row_head.specs.Head.{shortest_for}
 use Rattle.row_head.proofs.Told.{shortest-located}
@@ -8,6 +7,9 @@ use Rattle.guarded.specs.Guarded.{located_of}
 use Rattle.guarded.proofs.Guard.{guarded-placed}
 use Rattle.turns.specs.Rows.{cell_by}
 use Rattle.exports.proofs.shorgavel_guarded_cell.Goals as goal
+use Rattle.answers.specs.declared.Refusal.{Refusal}
+use Rattle.row.specs.declared.FoundCell.{FoundCell}
+use Rattle.std.specs.Prelude.{Result}
 
 pub returns : goal.returns
 returns c =
@@ -15,6 +17,6 @@ returns c =
     let x = located_of a.number a.i a.db.now in
     let found = c.found-found.ensures in
     let shortest =
-    c.shortest_of.ensures ∙ ap (λ (y : FoundAnswer). shortest_for y a.db.now) found
+    c.shortest_of.ensures ∙ ap (λ (y : Result FoundCell Refusal). shortest_for y a.db.now) found
     ∙ shortest-located a.db.now x (λ l e. guarded-placed a.number a.i a.db.now e) in
-    c.cell_by.ensures ∙ ap (λ (y : FoundAnswer). cell_by y c.shortest_of.result) found ∙ ap (cell_by (found_by x)) shortest
+    c.cell_by.ensures ∙ ap (λ (y : Result FoundCell Refusal). cell_by y c.shortest_of.result) found ∙ ap (cell_by (found_by x)) shortest

@@ -8,9 +8,9 @@ use Rattle.fields.proofs.be_i16.Goals as goal
 pub overflow_cast-result : goal.overflow_cast-result
 overflow_cast-result c =
     let r = c.signed_spelt in
-    cast_fits w64 w16 r.result (record { sfits = r.type_inv }) (record { sfits = omega (arith, r.ensures.1) })
+    cast_fits w64 w16 r.result (record { sfits = r.type_inv }) (record { sfits = omega (arith, r.ensures.bound) })
 
 pub returns : goal.returns
 returns c =
     let r = c.signed_spelt in
-    cast_same w64 w16 r.result (record { sfits = r.type_inv }) (record { sfits = omega (arith, r.ensures.1) }) ∙ r.ensures.0
+    cast_same w64 w16 r.result (record { sfits = r.type_inv }) (record { sfits = omega (arith, r.ensures.bound) }) ∙ r.ensures.value

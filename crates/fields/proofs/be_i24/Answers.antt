@@ -38,12 +38,12 @@ spelt-24 s x y z h p q r = rw (p, q, r) (sym (sum-of-three s h))
 pub overflow_cast-result : goal.overflow_cast-result
 overflow_cast-result c =
     let r = c.signed_spelt in
-    cast_fits w64 w32 r.result (record { sfits = r.type_inv }) (record { sfits = omega (arith, r.ensures.1) })
+    cast_fits w64 w32 r.result (record { sfits = r.type_inv }) (record { sfits = omega (arith, r.ensures.bound) })
 
 pub returns-then-part-lt3 : goal.returns-then-part-lt3
 returns-then-part-lt3 c =
     let r = c.signed_spelt in
-    cast_same w64 w32 r.result (record { sfits = r.type_inv }) (record { sfits = omega (arith, r.ensures.1) }) ∙ r.ensures.0
+    cast_same w64 w32 r.result (record { sfits = r.type_inv }) (record { sfits = omega (arith, r.ensures.bound) }) ∙ r.ensures.value
 
 pub returns-then-sum-lt8388608 : goal.returns-then-sum-lt8388608
 returns-then-sum-lt8388608 c =
@@ -52,7 +52,7 @@ returns-then-sum-lt8388608 c =
     let z = c.byte-3 in
     let sum : ℕ = x.result * 65536 + y.result * 256 + z.result in
     to_z_pos w32 {n = sum} (omega arith) ∙ sym (lower 8388608 sum c.if-sum-lt8388608.true)
-    ∙ ap (twos 16777216) (spelt-24 c.args.part.now x.result y.result z.result c.if-part-lt3.false x.ensures.0 y.ensures.0 z.ensures.0)
+    ∙ ap (twos 16777216) (spelt-24 c.args.part.now x.result y.result z.result c.if-part-lt3.false x.ensures.value y.ensures.value z.ensures.value)
 
 pub overflow_sub-result : goal.overflow_sub-result
 overflow_sub-result c =
@@ -60,7 +60,7 @@ overflow_sub-result c =
     let y = c.byte-2 in
     let z = c.byte-3 in
     fits-64 (x.result * 65536 + y.result * 256 + z.result) c.if-sum-lt8388608.false
-    (below-24 x.result y.result z.result x.ensures.1 y.ensures.1 z.ensures.1)
+    (below-24 x.result y.result z.result x.ensures.bound y.ensures.bound z.ensures.bound)
 
 pub overflow_cast-result-3 : goal.overflow_cast-result-3
 overflow_cast-result-3 c =
@@ -69,7 +69,7 @@ overflow_cast-result-3 c =
     let z = c.byte-3 in
     let sum : ℕ = x.result * 65536 + y.result * 256 + z.result in
     let h : 8388608 ≤ sum = c.if-sum-lt8388608.false in
-    let low = below-24 x.result y.result z.result x.ensures.1 y.ensures.1 z.ensures.1 in
+    let low = below-24 x.result y.result z.result x.ensures.bound y.ensures.bound z.ensures.bound in
     cast_fits w64 w32 (to_z w64 sum -ℤ pos 16777216) (fits-64 sum h low) (fits-32 sum h low)
 
 pub returns : goal.returns
@@ -79,7 +79,7 @@ returns c =
     let z = c.byte-3 in
     let sum : ℕ = x.result * 65536 + y.result * 256 + z.result in
     let h : 8388608 ≤ sum = c.if-sum-lt8388608.false in
-    let low = below-24 x.result y.result z.result x.ensures.1 y.ensures.1 z.ensures.1 in
+    let low = below-24 x.result y.result z.result x.ensures.bound y.ensures.bound z.ensures.bound in
     cast_same w64 w32 (to_z w64 sum -ℤ pos 16777216) (fits-64 sum h low) (fits-32 sum h low) ∙ less sum h low
     ∙ sym (upper 8388608 sum h low)
-    ∙ ap (twos 16777216) (spelt-24 c.args.part.now x.result y.result z.result c.if-part-lt3.false x.ensures.0 y.ensures.0 z.ensures.0)
+    ∙ ap (twos 16777216) (spelt-24 c.args.part.now x.result y.result z.result c.if-part-lt3.false x.ensures.value y.ensures.value z.ensures.value)

@@ -42,8 +42,8 @@ returns-then-sum-lt140737488355328 c =
     let u = c.byte-5 in
     let v = c.byte-6 in
     let sum : ℕ = p.result * 1099511627776 + q.result * 4294967296 + r.result * 16777216 + t.result * 65536 + u.result * 256 + v.result in
-    let low : sum < 281474976710656 = below-48 p.result q.result r.result t.result u.result v.result p.ensures.1 q.ensures.1 r.ensures.1 t.ensures.1 u.ensures.1 v.ensures.1 in
-    let spelt = spelt-48 p.result q.result r.result t.result u.result v.result c.args.part.now c.if-part-lt6.false p.ensures.0 q.ensures.0 r.ensures.0 t.ensures.0 u.ensures.0 v.ensures.0 in
+    let low : sum < 281474976710656 = below-48 p.result q.result r.result t.result u.result v.result p.ensures.bound q.ensures.bound r.ensures.bound t.ensures.bound u.ensures.bound v.ensures.bound in
+    let spelt = spelt-48 p.result q.result r.result t.result u.result v.result c.args.part.now c.if-part-lt6.false p.ensures.value q.ensures.value r.ensures.value t.ensures.value u.ensures.value v.ensures.value in
     to_z_pos w64 {n = sum} (omega (arith, low)) ∙ sym (lower 140737488355328 sum c.if-sum-lt140737488355328.true) ∙ ap (twos 281474976710656) spelt
 
 pub overflow_sub-result : goal.overflow_sub-result
@@ -55,7 +55,7 @@ overflow_sub-result c =
     let u = c.byte-5 in
     let v = c.byte-6 in
     let sum : ℕ = p.result * 1099511627776 + q.result * 4294967296 + r.result * 16777216 + t.result * 65536 + u.result * 256 + v.result in
-    let low : sum < 281474976710656 = below-48 p.result q.result r.result t.result u.result v.result p.ensures.1 q.ensures.1 r.ensures.1 t.ensures.1 u.ensures.1 v.ensures.1 in
+    let low : sum < 281474976710656 = below-48 p.result q.result r.result t.result u.result v.result p.ensures.bound q.ensures.bound r.ensures.bound t.ensures.bound u.ensures.bound v.ensures.bound in
     fits sum c.if-sum-lt140737488355328.false low
 
 pub returns : goal.returns
@@ -68,7 +68,7 @@ returns c =
     let v = c.byte-6 in
     let sum : ℕ = p.result * 1099511627776 + q.result * 4294967296 + r.result * 16777216 + t.result * 65536 + u.result * 256 + v.result in
     let high : 140737488355328 ≤ sum = c.if-sum-lt140737488355328.false in
-    let low : sum < 281474976710656 = below-48 p.result q.result r.result t.result u.result v.result p.ensures.1 q.ensures.1 r.ensures.1 t.ensures.1 u.ensures.1 v.ensures.1 in
-    let spelt = spelt-48 p.result q.result r.result t.result u.result v.result c.args.part.now c.if-part-lt6.false p.ensures.0 q.ensures.0 r.ensures.0 t.ensures.0 u.ensures.0 v.ensures.0 in
+    let low : sum < 281474976710656 = below-48 p.result q.result r.result t.result u.result v.result p.ensures.bound q.ensures.bound r.ensures.bound t.ensures.bound u.ensures.bound v.ensures.bound in
+    let spelt = spelt-48 p.result q.result r.result t.result u.result v.result c.args.part.now c.if-part-lt6.false p.ensures.value q.ensures.value r.ensures.value t.ensures.value u.ensures.value v.ensures.value in
     to_z-of_z {w = w64} {z = to_z w64 sum -ℤ pos 281474976710656} (fits sum high low)
     ∙ less sum high low ∙ sym (upper 140737488355328 sum high low) ∙ ap (twos 281474976710656) spelt

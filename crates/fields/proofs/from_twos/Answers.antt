@@ -17,7 +17,7 @@ overflow_sub-result-else-v-top-3 c =
 pub returns-then-v-top : goal.returns-then-v-top
 returns-then-v-top c =
     let a = c.args in
-    rw (to_z_pos w64 {n = a.v} (omega arith)) (sym (lower a.top a.v c.if-v-top.true), c.if-v-top.true)
+    rw (to_z_pos w64 {n = a.v} (omega arith)) (record { value = sym (lower a.top a.v c.if-v-top.true); bound = c.if-v-top.true })
 
 pub returns-else-v-top : goal.returns-else-v-top
 returns-else-v-top c =
@@ -25,4 +25,4 @@ returns-else-v-top c =
     let n = a.top - 1 - (a.v - a.top) in
     let h : n < 2 ^ 63 = omega arith in
     rw (minus n h, to_z-of_z {w = w64} {z = negsuc n} (record { sfits = h }))
-    (sym (upper a.top a.v c.if-v-top.false c.requires.0), omega arith)
+    (record { value = sym (upper a.top a.v c.if-v-top.false c.requires.within); bound = omega arith })

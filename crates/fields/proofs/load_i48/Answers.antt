@@ -25,11 +25,11 @@ pub overflow_add-result : goal.overflow_add-result
 overflow_add-result c =
     let r = c.be_i16 in
     let b = c.spelt in
-    let low : b.result < 2 ^ 63 = omega (arith, b.ensures.1) in
+    let low : b.result < 2 ^ 63 = omega (arith, b.ensures.bound) in
     let small : 2 * mag r.result < 256 ^ 2 = omega (arith, r.type_inv) in
     record {
       sfits = rw (widen-same w16 r.result r.type_inv tt, to_z-of_z {w = w64} {z = r.result *ℤ pos 4294967296} (record { sfits = moved r.result small }), to_z_pos w64 low)
-          (held r.result b.result small b.ensures.1);
+          (held r.result b.result small b.ensures.bound);
     }
 
 pub returns : goal.returns
@@ -37,10 +37,10 @@ returns c =
     let s = c.args.part.now in
     let r = c.be_i16 in
     let b = c.spelt in
-    let low : b.result < 2 ^ 63 = omega (arith, b.ensures.1) in
+    let low : b.result < 2 ^ 63 = omega (arith, b.ensures.bound) in
     let small : 2 * mag r.result < 256 ^ 2 = omega (arith, r.type_inv) in
     let whole : 6 ≤ length s = c.if-part-lt6.false in
     let bytes : Bytes s = λ i. (c.type_inv.part i).fits in
     let z : ℤ = r.result *ℤ pos 4294967296 in
-    rw (widen-same w16 r.result r.type_inv tt, to_z-of_z {w = w64} {z = z} (record { sfits = moved r.result small }), to_z_pos w64 low, to_z-of_z {w = w64} {z = z +ℤ pos b.result} (record { sfits = held r.result b.result small b.ensures.1 }), r.ensures, in_two s whole, b.ensures.0, tail s 2)
+    rw (widen-same w16 r.result r.type_inv tt, to_z-of_z {w = w64} {z = z} (record { sfits = moved r.result small }), to_z_pos w64 low, to_z-of_z {w = w64} {z = z +ℤ pos b.result} (record { sfits = held r.result b.result small b.ensures.bound }), r.ensures, in_two s whole, b.ensures.value, tail s 2)
     (joined (unsigned 2 s) (unsigned 4 (drop 2 s)) (unsigned-below 2 s bytes) (unsigned-below 4 (drop 2 s) (bytes_drop 2 s bytes)))

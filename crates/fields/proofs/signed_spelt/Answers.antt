@@ -13,7 +13,6 @@ use mir.Syntax.{w64}
 use mir.Facts.{to_z-of_z}
 use Rattle.laws.proofs.Table.{at}
 use Rattle.fields.specs.Fields.{twos, unsigned, signed}
-use borrow.Author.Rules.{rules}
 use Rattle.fields.proofs.signed_spelt.Goals as goal
 
 -- the code's table, entry for entry
@@ -46,13 +45,14 @@ module _ (w : ℕ) (l : 1 ≤ w) (h : w ≤ 8) where
 pub from_twos-requires : goal.from_twos-requires
 unfolding tops top
 from_twos-requires c =
-    let a = c.args in
-    fits a.width (search rules) (search rules) c.spelt.ensures.1
+    let r = c.requires in
+    let fit = fits c.args.width r.some r.at_most c.spelt.ensures.bound in
+    record { within = fit.0; at_most = fit.1 }
 
 pub returns : goal.returns
 unfolding tops top
 returns c =
     let a = c.args in
     let f = c.from_twos in
-    rw (to_z-of_z {w = w64} (record { sfits = f.type_inv }))
-    (turned a.width (search rules) (search rules) a.part.now c.spelt.ensures.0 f.ensures.0 f.ensures.1)
+    let told = turned a.width c.requires.some c.requires.at_most a.part.now c.spelt.ensures.value f.ensures.value f.ensures.bound in
+    rw (to_z-of_z {w = w64} (record { sfits = f.type_inv })) (record { value = told.0; bound = told.1 })

@@ -3,16 +3,16 @@ use Prim.Native.Nat.{ℕ}
 use mathlib.Core.Path.{◌≡◌, sym, ap, ◌∙◌}
 use mathlib.Core.List.{List}
 use mathlib.Core.Bool.{true}
+use Rattle.std.proofs.lemmas.Result.{err_from_is_err_and}
+use Rattle.std.specs.Prelude.{Err, Ok}
 use Rattle.answers.specs.declared.Refusal.TheVariants.{InCell}
 use Rattle.answers.specs.declared.Fault.TheVariants as fa
-use Rattle.answers.specs.Answer.{refused}
 use Rattle.kinds.specs.Kind.{is_leaf_table}
 use Rattle.marks.specs.Marks.{mark_of}
 use Rattle.page.specs.declared.Open.{Open}
 use Rattle.cells.specs.Located as cells
 use Rattle.cells.proofs.Laws.{held}
 use Rattle.row.specs.declared.FoundCell.{FoundCell}
-use Rattle.row.specs.declared.FoundAnswer.TheVariants as fo
 use Rattle.row.specs.Found.{found_by}
 use Rattle.row.proofs.Told.{Told, told, told-refused}
 use Rattle.row.proofs.Placed.{placed-in}
@@ -25,40 +25,41 @@ pub returns-then-not-is_leaf_table : goal.returns-then-not-is_leaf_table
 returns-then-not-is_leaf_table c =
     let a = c.args in
     let t = sym c.is_leaf_table.ensures ∙ c.if-not-is_leaf_table.true in
-    sym (ap found_by (other-in a.opened a.i a.db.now t))
+    rw (c.refusal.ensures, other-in a.opened a.i a.db.now t)
 
-pub returns-in_default : goal.returns-in_default
-returns-in_default c =
+pub returns-in_err-found : goal.returns-in_err-found
+returns-in_err-found c =
     let a = c.args in
     let t = sym c.is_leaf_table.ensures ∙ c.if-not-is_leaf_table.false in
-    let e = told-refused (cells.located_in a.opened a.i a.db.now) (sym c.found_in-answer.ensures ∙ c.in_default.is) in
-    c.in_default.is ∙ sym (ap found_by (leaf-in a.opened a.i a.db.now t ∙ ap (guarded_by a.i) e))
+    let e = told-refused (cells.located_in a.opened a.i a.db.now) (sym c.found_in.ensures ∙ c.in_err-found.was) in
+    let p = err_from_is_err_and c.from_residual.result c.from_residual.ensures.1 in
+    rw (p.1, p.2, leaf-in a.opened a.i a.db.now t, e)
 
 -- the cell that is located, on a table leaf
 by-mark : (o : Open) (i : ℕ) (db : List ℕ) {f : FoundCell} (t : Told (cells.located_in o i db) f) → is_leaf_table o.kind ≡ true
     → located_in o i db ≡ unmarked i t.l (mark_of t.l.cell)
 by-mark o i db t leaf = leaf-in o i db leaf ∙ ap (guarded_by i) t.is
 
-pub marking-mark-requires : goal.marking-mark-requires
-marking-mark-requires c =
+pub marking-requires-clause-bound : goal.marking-requires-clause-bound
+marking-requires-clause-bound c =
     let a = c.args in
-    let t = told (cells.located_in a.opened a.i a.db.now) (sym c.found_in-answer.ensures ∙ c.in-Shown.is) in
-    types-within t.l a.db.now t.same (placed-in a.opened a.i a.db.now t.is)
+    let t = told (cells.located_in a.opened a.i a.db.now) (sym c.found_in.ensures ∙ c.in_ok-found.was) in
+    (types-within t.l a.db.now t.same (placed-in a.opened a.i a.db.now t.is)).1
 
-pub returns-in-Clear : goal.returns-in-Clear
-returns-in-Clear c =
+pub returns-in-Some : goal.returns-in-Some
+returns-in-Some c =
     let a = c.args in
-    let t = told (cells.located_in a.opened a.i a.db.now) (sym c.found_in-answer.ensures ∙ c.in-Shown.is) in
+    let t = told (cells.located_in a.opened a.i a.db.now) (sym c.found_in.ensures ∙ c.in_ok-found.was) in
     let leaf = sym c.is_leaf_table.ensures ∙ c.if-not-is_leaf_table.false in
-    let m = sym (mark-is t.l a.db.now t.same (placed-in a.opened a.i a.db.now t.is)) ∙ sym c.marking-mark.ensures ∙ c.in-Clear.is in
-    ap fo.Shown (sym t.same) ∙ sym (ap found_by (by-mark a.opened a.i a.db.now t leaf ∙ ap (unmarked a.i t.l) m))
-
-pub returns-in-By : goal.returns-in-By
-returns-in-By c =
-    let a = c.args in
-    let t = told (cells.located_in a.opened a.i a.db.now) (sym c.found_in-answer.ensures ∙ c.in-Shown.is) in
-    let leaf = sym c.is_leaf_table.ensures ∙ c.if-not-is_leaf_table.false in
-    let m = sym (mark-is t.l a.db.now t.same (placed-in a.opened a.i a.db.now t.is)) ∙ sym c.marking-mark.ensures ∙ c.in-By.is in
+    let m = sym (mark-is t.l a.db.now t.same (placed-in a.opened a.i a.db.now t.is)) ∙ sym c.marking.ensures ∙ c.in-Some.is in
     let its = (held a.opened a.i a.db.now t.is).opened in
-    let on-it = ap (λ (o : Open). refused (InCell o.page.number a.i (fa.Marked c.in-By.mark))) its in
-    sym (ap found_by (by-mark a.opened a.i a.db.now t leaf ∙ ap (unmarked a.i t.l) m ∙ on-it))
+    let on-it = ap (λ (o : Open). Err (InCell o.page.number a.i (fa.Marked c.in-Some.mark))) its in
+    rw c.refusal_in.ensures (sym (ap found_by (by-mark a.opened a.i a.db.now t leaf ∙ ap (unmarked a.i t.l) m ∙ on-it)))
+
+pub returns : goal.returns
+returns c =
+    let a = c.args in
+    let t = told (cells.located_in a.opened a.i a.db.now) (sym c.found_in.ensures ∙ c.in_ok-found.was) in
+    let leaf = sym c.is_leaf_table.ensures ∙ c.if-not-is_leaf_table.false in
+    let m = sym (mark-is t.l a.db.now t.same (placed-in a.opened a.i a.db.now t.is)) ∙ sym c.marking.ensures ∙ c.in_default.is in
+    ap Ok (sym t.same) ∙ sym (ap found_by (by-mark a.opened a.i a.db.now t leaf ∙ ap (unmarked a.i t.l) m))

@@ -1,7 +1,5 @@
 -- The cell that is found tells what the one that is located has.
-use mathlib.Core.Path.{ap, ◌∙◌}
-use Rattle.row.specs.declared.FoundAnswer.{FoundAnswer}
-use Rattle.row_head.specs.Head.{row_for}
+use mathlib.Core.Path.{◌∙◌}
 use Rattle.row_head.proofs.Told.{row-found}
 use Rattle.guarded.specs.Guarded.{located_of, row_of}
 use Rattle.guarded.proofs.Guard.{guarded-placed}
@@ -11,5 +9,4 @@ pub returns : goal.returns
 unfolding row_of
 returns c =
     let a = c.args in
-    c.row_number_of.ensures ∙ ap (λ (x : FoundAnswer). row_for x a.db.now) c.found.ensures
-    ∙ row-found a.db.now (located_of a.number a.i a.db.now) (λ l e. guarded-placed a.number a.i a.db.now e)
+    (rw c.found.ensures at c.row_number_of.ensures) ∙ row-found a.db.now (located_of a.number a.i a.db.now) (λ l e. guarded-placed a.number a.i a.db.now e)

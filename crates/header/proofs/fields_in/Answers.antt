@@ -6,7 +6,7 @@ pub returns : goal.returns
 unfolding fields_in
 returns c =
     λ i. record {
-      page_size = c.page_size.ensures.0 i;
+      page_size = c.page_size.ensures i;
       write_version = c.field.ensures i;
       read_version = c.field-2.ensures i;
       reserved_space = c.reserved_in.ensures i;

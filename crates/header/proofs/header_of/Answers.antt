@@ -1,19 +1,19 @@
--- The answer goes by what the checks came to, and a database that passed them has its hundred bytes.
-use mathlib.Core.Path.{sym, ap, ◌∙◌}
-use Rattle.header.specs.declared.HeaderAnswer.TheVariants.{Shown}
+-- The answer goes by what the checks came to, and the header's bytes say what the database says.
+use mathlib.Core.Path.{ap, ◌∙◌}
+use Rattle.std.specs.Prelude.{Ok}
+use Rattle.std.proofs.lemmas.Result.{err_from_is_err_and}
 use Rattle.header.specs.Header.{header_of}
-use Rattle.header.proofs.Laws.{passed_length}
+use Rattle.header.proofs.Head.{fields-head}
 use Rattle.header.proofs.header_of.Goals as goal
 
-pub fields_in-requires : goal.fields_in-requires
-fields_in-requires c = passed_length c.args.reading c.args.db.now (sym c.checked-passed.ensures ∙ c.in-Passed.is)
-
-pub returns-in-Failed : goal.returns-in-Failed
+pub returns-in_err-head : goal.returns-in_err-head
 unfolding header_of
-returns-in-Failed c = rw (sym c.checked-passed.ensures ∙ c.in-Failed.is)
+returns-in_err-head c =
+    let p = err_from_is_err_and c.from_residual.result c.from_residual.ensures.1 in
+    rw (p.1, p.2, c.in_err-head.ensures.checks)
 
-pub returns-in-Passed : goal.returns-in-Passed
+pub returns : goal.returns
 unfolding header_of
-returns-in-Passed c =
-    let passed = sym c.checked-passed.ensures ∙ c.in-Passed.is in
-    rw passed (ap Shown c.fields_in.ensures)
+returns c =
+    let told = c.in_ok-head.ensures in
+    rw told.passed (ap Ok (c.fields_in.ensures ∙ rw told.head (fields-head c.args.db.now c.args.reading)))

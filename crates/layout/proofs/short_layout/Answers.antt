@@ -1,29 +1,19 @@
 -- At every turn, how the rest of the values lie in the rest of the bytes is how all of them lie; and no type so far is a mark.
+use mathlib.Core.Path.{◌≡◌}
 use native.Mathlib.Omega.{arith}
-use Rattle.layout.proofs.Types.{barred-low, least-high, gone-first, gone-on, gone-all}
-use borrow.Author.Rules.{rules}
+use lib.ListN.{length}
+use Rattle.layout.proofs.Types.{gone-on, gone-all}
 use Rattle.layout.proofs.short_layout.Goals as goal
 
-pub loop-at-init : goal.loop-at-init
-loop-at-init c = let a = c.args in
-    (search rules, gone-first a.guarded a.room a.t.now)
-
-pub overflow_cast-t : goal.overflow_cast-t
-overflow_cast-t c = omega (arith, c.type_inv.t c.loop-at.at)
-
-pub width_of-width-requires : goal.width_of-width-requires
-width_of-width-requires c = let g = c.args.guarded in
-    rw (c.barred_of-barred.ensures, c.least_of-least.ensures) (barred-low g, least-high g)
-
-pub loop-at-preserved : goal.loop-at-preserved
-loop-at-preserved c = let a = c.args in
-    let l = c.loop-at in
-    let u = rw (c.barred_of-barred.ensures, c.least_of-least.ensures) at c.in-Bytes.ensures in (
-      omega arith,
-      gone-on a.guarded a.room a.t.now l.at l.left c.in-Bytes.w c.loop-at-test.true u c.if-left-w.false l.invariant.1,
-    )
+pub loop-byte-preserved : goal.loop-byte-preserved
+loop-byte-preserved c = let a = c.args in
+    let l = c.loop-byte in
+    let u = rw (c.barred_of-barred.ensures, c.least_of-least.ensures, c.from.ensures) at c.in_ok-width_of.ensures in
+    let p = c.in_ok-left.ensures in
+    rw p.1 (gone-on a.guarded a.room a.t.now l.byte-index l.left c.in_ok-width_of.field-0 c.loop-byte-test.true u p.0 l.invariant)
 
 pub returns : goal.returns
 returns c = let a = c.args in
-    let l = c.loop-at in
-    gone-all a.guarded a.room a.t.now l.at l.left c.loop-at-test.false l.invariant.1
+    let l = c.loop-byte in
+    let all : l.byte-index ≡ length a.t.now = omega arith in
+    gone-all a.guarded a.room a.t.now (length a.t.now) l.left (omega arith) (rw all at l.invariant)

@@ -3,7 +3,7 @@
 use Rattle.std.proofs.Common.{◌≡◌, length, arith, ap, ◌∙◌}
 use Rattle.halves.specs.Halves.{room_of}
 use Rattle.halves.proofs.Laws.{share-within}
-use Rattle.page.specs.Open.{open_of, open_answer}
+use Rattle.page.specs.Open.{open_of}
 use Rattle.table.specs.Page.{page_for, written}
 use Rattle.table.proofs.Laws.{cells-within}
 use Rattle.lent.proofs.Filled.{from-share}
@@ -20,7 +20,7 @@ fill-requires c =
 pub returns : goal.returns
 returns c =
     let a = c.args in
-    let opening = open_answer (open_of a.asked a.db.now) in
+    let opening = open_of a.asked a.db.now in
     let room = room_of a.share (length a.table.now) in
     let answer : c.check_by-answer.result ≡ page_for opening room a.db.now =
     rw (c.open_page-opening.ensures, c.room_of-room.ensures) at c.check_by-answer.ensures in

@@ -1,5 +1,5 @@
 -- The measure of a call is the depth that is left. Each turn stores the rows of the child that comes next.
-use Prim.Native.Nat.{◌-◌, ◌≤◌}
+use Prim.Native.Nat.{◌-◌}
 use Rattle.standing.specs.Rows.{child_rows, all_rows}
 use Rattle.listing.proofs.Storing.{Held}
 use Rattle.listing.proofs.+rows.Given as goal
@@ -8,10 +8,4 @@ abbrev pub decreases-rows : goal.decreases-rows
 decreases-rows l = l.depth
 
 abbrev pub invariant-loop-i : goal.invariant-loop-i
-invariant-loop-i l =
-    (l.i ≤ l.cells)
-    × Held l.initial.list l.initial.next (child_rows (all_rows (l.depth - 1) l.db) l.opened l.db l.cells 0)
-    l.list l.next (child_rows (all_rows (l.depth - 1) l.db) l.opened l.db (l.cells - l.i) l.i)
-
-abbrev pub decreases-loop-i : goal.decreases-loop-i
-decreases-loop-i l = l.cells - l.i
+invariant-loop-i l = Held l.fn.list l.at (all_rows l.depth l.db l.page) l.list l.next (child_rows (all_rows (l.depth - 1) l.db) l.opened l.db (l.opened.cells - l.i) l.i)

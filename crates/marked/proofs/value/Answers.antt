@@ -8,9 +8,9 @@ use Rattle.marked.specs.Marked.{value_of}
 use Rattle.marked.proofs.Guarded.{lent-column}
 use Rattle.marked.proofs.value.Goals as goal
 
-pub returns : goal.returns
+pub returns-clause-answer : goal.returns-clause-answer
 unfolding value_of
-returns c =
+returns-clause-answer c =
     let a = c.args in
-    let e = (rw c.found-answer.ensures.0 at c.column_of.ensures) ∙ lent-column a.k a.number a.i (length a.buffer.now) a.db.now in
-    (c.shown_from.ensures ∙ ap (from Database) (c.shown.ensures ∙ ap (shown_by a.db.now) e), c.found-answer.ensures.1)
+    let e = (rw c.found.ensures.answer at c.column_of-column.ensures) ∙ lent-column a.k a.number a.i (length a.buffer.now) a.db.now in
+    c.shown_from.ensures ∙ ap (from Database) (c.shown.ensures ∙ ap (shown_by a.db.now) e)

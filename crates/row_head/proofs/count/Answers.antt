@@ -1,9 +1,8 @@
 -- The cell that is found tells what the one that is located has.
-use mathlib.Core.Path.{ap, ◌∙◌}
+use mathlib.Core.Path.{◌∙◌}
 use Rattle.cells.specs.Located.{located_of}
-use Rattle.row.specs.declared.FoundAnswer.{FoundAnswer}
 use Rattle.row.proofs.Placed.{placed}
-use Rattle.row_head.specs.Head.{count_of, count_for}
+use Rattle.row_head.specs.Head.{count_of}
 use Rattle.row_head.proofs.Told.{count-found}
 use Rattle.row_head.proofs.count.Goals as goal
 
@@ -11,5 +10,4 @@ pub returns : goal.returns
 unfolding count_of
 returns c =
     let a = c.args in
-    c.count_of.ensures ∙ ap (λ (x : FoundAnswer). count_for x a.db.now) c.found.ensures
-    ∙ count-found a.db.now (located_of a.page a.i a.db.now) (λ l e. placed a.page a.i a.db.now e)
+    (rw c.found.ensures at c.count_of.ensures) ∙ count-found a.db.now (located_of a.page a.i a.db.now) (λ l e. placed a.page a.i a.db.now e)

@@ -1,9 +1,8 @@
 -- The cell that is found tells what the one that is located has.
-use mathlib.Core.Path.{ap, ◌∙◌}
+use mathlib.Core.Path.{◌∙◌}
 use Rattle.cells.specs.Located.{located_of}
-use Rattle.row.specs.declared.FoundAnswer.{FoundAnswer}
 use Rattle.row.proofs.Placed.{placed}
-use Rattle.row_head.specs.Head.{row_of, row_for}
+use Rattle.row_head.specs.Head.{row_of}
 use Rattle.row_head.proofs.Told.{row-found}
 use Rattle.row_head.proofs.row_number.Goals as goal
 
@@ -11,5 +10,4 @@ pub returns : goal.returns
 unfolding row_of
 returns c =
     let a = c.args in
-    c.row_number_of.ensures ∙ ap (λ (x : FoundAnswer). row_for x a.db.now) c.found.ensures
-    ∙ row-found a.db.now (located_of a.page a.i a.db.now) (λ l e. placed a.page a.i a.db.now e)
+    (rw c.found.ensures at c.row_number_of.ensures) ∙ row-found a.db.now (located_of a.page a.i a.db.now) (λ l e. placed a.page a.i a.db.now e)

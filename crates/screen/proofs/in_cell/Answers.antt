@@ -4,19 +4,19 @@ use Rattle.addresses.proofs.Lists.{going-first, going-turned}
 use Rattle.screen.proofs.Found.{found-checked, cell-asked}
 use Rattle.screen.proofs.in_cell.Goals as goal
 
-pub in_row-requires : goal.in_row-requires
-in_row-requires c =
+pub in_row-requires-clause-whole : goal.in_row-requires-clause-whole
+in_row-requires-clause-whole c =
     let a = c.args in
-    (found-checked a.guarded a.opened c.cell_at.result a.db.now (sym c.found_in-found.ensures ∙ c.in-Shown.is), c.requires.0, c.requires.1)
+    found-checked a.guarded a.opened c.cell_at.result a.db.now (sym c.found_in.ensures ∙ c.in-Ok.is)
 
-pub returns-in-Refused : goal.returns-in-Refused
-returns-in-Refused c =
+pub returns-in-Err : goal.returns-in-Err
+returns-in-Err c =
     let a = c.args in
-    going-turned (going-first c.requires.1) c.refused_in.ensures
-    (cell-asked a.reading a.guarded a.opened a.db.now a.addresses.now a.at c.cell_at.ensures (sym c.found_in-found.ensures ∙ c.in-Refused.is))
+    going-turned (going-first c.requires.there) c.refused_in.ensures
+    (cell-asked a.reading a.guarded a.opened a.db.now a.addresses.now a.at c.cell_at.ensures (sym c.found_in.ensures ∙ c.in-Err.is))
 
-pub returns-in-Shown : goal.returns-in-Shown
-returns-in-Shown c =
+pub returns-in-Ok : goal.returns-in-Ok
+returns-in-Ok c =
     let a = c.args in
-    going-turned (going-first c.requires.1) c.in_row.ensures
-    (cell-asked a.reading a.guarded a.opened a.db.now a.addresses.now a.at c.cell_at.ensures (sym c.found_in-found.ensures ∙ c.in-Shown.is))
+    going-turned (going-first c.requires.there) c.in_row.ensures
+    (cell-asked a.reading a.guarded a.opened a.db.now a.addresses.now a.at c.cell_at.ensures (sym c.found_in.ensures ∙ c.in-Ok.is))

@@ -11,16 +11,10 @@ returns-then-count-i c =
     let l = c.loop-i in
     going-turned l.invariant.0 c.in_cell-i.ensures (page-asked a.reading a.guarded a.opened a.db.now a.addresses.now a.at l.i l.invariant.2)
 
-pub returns-then-page_at-page : goal.returns-then-page_at-page
-returns-then-page_at-page c =
-    let a = c.args in
-    let l = c.loop-i in
-    going-turned l.invariant.0 c.in_cell-i.ensures (page-asked a.reading a.guarded a.opened a.db.now a.addresses.now a.at l.i l.invariant.2)
-
 pub loop-i-preserved : goal.loop-i-preserved
 loop-i-preserved c =
     let a = c.args in
     let l = c.loop-i in
     let turned = going-turned l.invariant.0 c.in_cell-i.ensures (page-asked a.reading a.guarded a.opened a.db.now a.addresses.now a.at l.i l.invariant.2) in
-    let page = c.page_at-page.ensures in
-    (going_on turned c.if-count-i.false, l.invariant.1, sym c.page_at.ensures ∙ c.if-page_at-page.false ∙ page, l.invariant.3, l.invariant.4, l.invariant.5)
+    let page = sym c.page_at.ensures ∙ c.if-page_at-page.false ∙ c.page_at-page.ensures in
+    (going_on turned c.if-count-i.false, l.invariant.1, page, l.invariant.3)

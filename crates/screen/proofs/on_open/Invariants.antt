@@ -1,5 +1,5 @@
 -- The cells of a page, one behind the other: each is found once for all addresses that name it in a row.
-use Prim.Native.Nat.{ℕ, ◌*◌, ◌-◌, ◌<◌, ◌^◌, ◌≤◌}
+use Prim.Native.Nat.{ℕ, ◌-◌}
 use mathlib.Core.Path.{◌≡◌}
 use mathlib.Core.Bool.{Bool}
 use mathlib.Core.List.{List}
@@ -9,9 +9,8 @@ use Rattle.row.specs.Found.{found_by}
 use Rattle.turns.specs.declared.types.Shown.{Shown}
 use Rattle.chosen.specs.Chosen.{found_shown, located_in}
 use Rattle.addresses.specs.Screen.{Address}
-use Rattle.addresses.specs.Turns.{PageAnswers, named_page}
+use Rattle.addresses.specs.Turns.{Room, PageAnswers, named_page}
 use Rattle.addresses.proofs.Lists.{Going}
-use lib.ListN.{length}
 use Rattle.screen.proofs.on_open.Given as goal
 
 -- what the cells of the page are answered
@@ -24,9 +23,7 @@ invariant-loop-i l =
     Going (Cells l.db l.reading l.guarded l.opened l.at l.addresses) l.count l.addresses l.at l.i l.initial.answers l.answers
     × (l.page ≡ named_page l.at l.addresses)
     × (named_page l.i l.addresses ≡ named_page l.at l.addresses)
-    × (3 * l.count ≤ length l.addresses)
-    × (8 * l.count ≤ length l.initial.answers)
-    × (8 * l.count < 2 ^ 64)
+    × Room l.count l.addresses l.initial.answers
 
 abbrev pub decreases-loop-i : goal.decreases-loop-i
 decreases-loop-i l = l.count - l.i

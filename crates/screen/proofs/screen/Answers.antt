@@ -15,8 +15,8 @@ returns c =
     let n = c.count_of-count.ensures in
     let m = c.places_of-places.ensures in
     let room = c.if-places-count.false in
-    let e : l.i ≡ length a.addresses.now / 3 = omega (arith, c.loop-i-test.false, l.invariant.0, n.0) in
+    let e : l.i ≡ length a.addresses.now / 3 = omega arith in
     let f = answer_to a.chosen a.db.now in
-    let all = rw (← n.0) at (rest_all f a.addresses.now a.answers.now (omega (arith, n.0, m.0, room))) in
-    rw (← n.0, ← m.0, le-ltb _ _ room, c.no_refusal.ensures)
+    let all = rw (← n.count) at (rest_all f a.addresses.now a.answers.now (omega (arith, n.count, m.places, room))) in
+    rw (← n.count, ← m.places, le-ltb _ _ room, c.no_refusal.ensures)
     (refl, sym (rest_end f a.addresses.now l.i l.answers e) ∙ l.invariant.2 ∙ all)

@@ -1,16 +1,19 @@
 -- The table is the definition's own, and from 12 on one sum serves texts and blobs.
+use Prim.Native.Nat.{◌≤◌}
 use mathlib.Core.Path.{sym, ap, ◌∙◌}
-use Rattle.serial.specs.declared.Width.TheVariants.{Bytes}
+use native.Mathlib.Omega.{arith}
 use Rattle.serial.proofs.Laws.{length-either, width_small, width-reserved, width-long}
 use Rattle.serial.proofs.width_of.Goals as goal
+use Rattle.std.specs.Prelude.{Some}
 
-pub returns-then-serial-lt10 : goal.returns-then-serial-lt10
-returns-then-serial-lt10 c = ap Bytes c.wide.ensures ∙ sym (width_small _ c.if-serial-lt10.true)
+pub returns-in-0-to-9 : goal.returns-in-0-to-9
+returns-in-0-to-9 c = ap Some c.from.ensures ∙ sym (width_small c.args.serial (omega arith))
 
-pub returns-then-serial-lt12 : goal.returns-then-serial-lt12
-returns-then-serial-lt12 c = sym (width-reserved _ c.if-serial-lt10.false c.if-serial-lt12.true)
+pub returns-in-10 : goal.returns-in-10
+returns-in-10 c = sym (width-reserved c.args.serial (omega arith) (omega arith))
 
-pub returns : goal.returns
-returns c =
+pub returns-in_default : goal.returns-in_default
+returns-in_default c =
     let serial = c.args.serial in
-    ap Bytes (length-either serial c.if-serial-lt12.false) ∙ sym (width-long serial c.if-serial-lt12.false)
+    let long : 12 ≤ serial = omega arith in
+    ap Some (length-either serial long) ∙ sym (width-long serial long)

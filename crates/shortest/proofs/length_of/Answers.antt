@@ -7,13 +7,13 @@ use Rattle.shortest.proofs.Laws.{length-below, length_above}
 use borrow.Author.Rules.{rules}
 use Rattle.shortest.proofs.length_of.Goals as goal
 
-pub returns-then-value-ge72057594037927936 : goal.returns-then-value-ge72057594037927936
-returns-then-value-ge72057594037927936 c = sym (length_above _ c.if-value-ge72057594037927936.true)
+pub returns-then-value-ge-NINE_BYTES : goal.returns-then-value-ge-NINE_BYTES
+returns-then-value-ge-NINE_BYTES c = sym (length_above _ c.if-value-ge-NINE_BYTES.true)
 
 pub loop-front-init : goal.loop-front-init
 loop-front-init c =
-    let e = length-below c.args.value c.if-value-ge72057594037927936.false in
-    (search rules, omega (arith, c.if-value-ge72057594037927936.false), omega arith)
+    let e = length-below c.args.value c.if-value-ge-NINE_BYTES.false in
+    (search rules, omega (arith, c.if-value-ge-NINE_BYTES.false), omega arith)
 
 pub loop-front-preserved : goal.loop-front-preserved
 loop-front-preserved c =

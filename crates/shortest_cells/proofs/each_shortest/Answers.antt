@@ -1,53 +1,61 @@
 -- Each turn passes a type in its shortest form.
-use mathlib.Core.Path.{sym, ap, ◌∙◌}
+use Prim.Native.Nat.{ℕ, ◌-◌, ◌<◌}
+use mathlib.Core.Path.{◌≡◌, sym, ap, ◌∙◌}
+use mathlib.Core.Bool.{Bool, true, ◌&&◌}
+use mathlib.Core.List.{List, [], ◌∷◌}
 use native.Mathlib.Omega.{arith}
-use Rattle.record.proofs.Laws.{read_at, room_at, types-at, types-break, types-end}
+use lib.ListN.{length, take, drop, length-drop}
+use Rattle.std.specs.Prelude.{Err}
+use Rattle.laws.proofs.Parts.{tail}
+use Rattle.shortest.specs.Shortest.{shortest}
+use Rattle.varint.specs.declared.Cause.{Cause}
+use Rattle.varint.specs.declared.Number.{Number}
+use Rattle.varint.specs.Varint.{varint_of}
+use Rattle.varint.proofs.Laws.{length-bounds}
+use Rattle.record.specs.Types.{Types, column, types_of}
+use Rattle.record.proofs.Laws.{types-nil, types-next, types-broken}
 use Rattle.shortest_cells.specs.Cells.{each_shortest}
 use Rattle.shortest_cells.proofs.each_shortest.Goals as goal
 
-pub returns-in_default : goal.returns-in_default
-returns-in_default c =
-    let a = c.args in
-    let h = c.loop-at in
-    let e = read_at a.limit a.types.now h.at c.read-v.ensures c.in_default.is in
-    sym (ap each_shortest (types-break a.limit a.types.now h.at c.loop-at-test.true e)) ∙ h.invariant.1
+-- where no type is read, none is left, or one that has no end
+ends : (limit : ℕ) (t : List ℕ) {cause : Cause} → varint_of limit t ≡ Err cause → each_shortest (types_of limit t) ≡ true
+ends limit [] e = ap each_shortest (types-nil limit)
+ends limit (b ∷ t) e = ap each_shortest (types-broken limit (b ∷ t) (omega arith) e)
+
+-- one type and the rest of them
+one : (t : Number) (rest : Types) {b : Bool} → shortest t ≡ b → (b && each_shortest rest) ≡ each_shortest (column t rest)
+one t rest e = sym (ap (λ (b : Bool). b && each_shortest rest) e)
 
 pub returns-then-not-is_shortest : goal.returns-then-not-is_shortest
 returns-then-not-is_shortest c =
-    let a = c.args in
-    let h = c.loop-at in
-    let found = read_at a.limit a.types.now h.at c.read-v.ensures c.in-Value.is in
-    let next = sym (ap each_shortest (types-at a.limit a.types.now h.at found)) ∙ h.invariant.1 in
-    let long = sym c.is_shortest.ensures ∙ c.if-not-is_shortest.true in
-    rw long at next
+    let t = c.loop-serial.rest.now in
+    let n = c.in-Ok.serial in
+    let next = sym (ap each_shortest (types-next c.args.limit t (sym c.read.ensures ∙ c.in-Ok.is))) ∙ c.loop-serial.invariant in
+    one n (types_of c.args.limit (drop n.length t)) (sym c.is_shortest.ensures ∙ c.if-not-is_shortest.true) ∙ next
 
--- the room that the type took
-pub overflow_add-at : goal.overflow_add-at
-overflow_add-at c =
-    let a = c.args in
-    let found = read_at a.limit a.types.now c.loop-at.at c.read-v.ensures c.in-Value.is in
-    let room = room_at a.limit a.types.now c.loop-at.at c.loop-at.invariant.0 found in
-    omega (arith, room)
+pub slice_bounds-rest-count : goal.slice_bounds-rest-count
+slice_bounds-rest-count c = (length-bounds c.loop-serial.rest.now c.args.limit (sym c.read.ensures ∙ c.in-Ok.is)).2
 
-pub loop-at-smaller : goal.loop-at-smaller
-loop-at-smaller c =
-    let a = c.args in
-    let found = read_at a.limit a.types.now c.loop-at.at c.read-v.ensures c.in-Value.is in
-    let room = room_at a.limit a.types.now c.loop-at.at c.loop-at.invariant.0 found in
-    omega (arith, room)
+pub slice_bounds-rest-start : goal.slice_bounds-rest-start
+slice_bounds-rest-start c =
+    let w = length-bounds c.loop-serial.rest.now c.args.limit (sym c.read.ensures ∙ c.in-Ok.is) in omega arith
 
-pub loop-at-preserved : goal.loop-at-preserved
-loop-at-preserved c =
-    let a = c.args in
-    let h = c.loop-at in
-    let found = read_at a.limit a.types.now h.at c.read-v.ensures c.in-Value.is in
-    let room = room_at a.limit a.types.now h.at h.invariant.0 found in
-    let next = sym (ap each_shortest (types-at a.limit a.types.now h.at found)) ∙ h.invariant.1 in
-    let short = sym c.is_shortest.ensures ∙ c.if-not-is_shortest.false in
-    (omega (arith, room), rw short at next)
+pub loop-serial-smaller : goal.loop-serial-smaller
+loop-serial-smaller c =
+    let t = c.loop-serial.rest.now in
+    let n = c.in-Ok.serial.length in
+    let w = length-bounds t c.args.limit (sym c.read.ensures ∙ c.in-Ok.is) in
+    let less : length (take (length t - n) (drop n t)) < length t = rw (tail t n, length-drop) (omega arith) in
+    less
+
+pub loop-serial-preserved : goal.loop-serial-preserved
+loop-serial-preserved c =
+    let t = c.loop-serial.rest.now in
+    let n = c.in-Ok.serial in
+    let next = sym (ap each_shortest (types-next c.args.limit t (sym c.read.ensures ∙ c.in-Ok.is))) ∙ c.loop-serial.invariant in
+    ap (λ (s : List ℕ). each_shortest (types_of c.args.limit s)) (tail t n.length)
+    ∙ one n (types_of c.args.limit (drop n.length t)) (sym c.is_shortest.ensures ∙ c.if-not-is_shortest.false)
+    ∙ next
 
 pub returns : goal.returns
-returns c =
-    let h = c.loop-at in
-    let a = c.args in
-    sym (ap each_shortest (types-end a.limit a.types.now h.at c.loop-at-test.false)) ∙ h.invariant.1
+returns c = sym (ends c.args.limit c.loop-serial.rest.now (sym c.read.ensures ∙ c.in_default.is)) ∙ c.loop-serial.invariant

@@ -1,13 +1,12 @@
 -- Each turn passes a type in its shortest form.
-use Prim.Native.Nat.{◌-◌, ◌≤◌}
 use mathlib.Core.Path.{◌≡◌}
-use lib.ListN.{length, drop}
+use lib.ListN.{length}
 use Rattle.record.specs.Types.{types_of}
 use Rattle.shortest_cells.specs.Cells.{each_shortest}
 use Rattle.shortest_cells.proofs.each_shortest.Given as goal
 
-abbrev pub invariant-loop-at : goal.invariant-loop-at
-invariant-loop-at l = (l.at ≤ length l.types) × (each_shortest (types_of l.limit (drop l.at l.types)) ≡ each_shortest (types_of l.limit l.types))
+abbrev pub invariant-loop-serial : goal.invariant-loop-serial
+invariant-loop-serial l = each_shortest (types_of l.limit l.rest) ≡ each_shortest (types_of l.limit l.types)
 
-abbrev pub decreases-loop-at : goal.decreases-loop-at
-decreases-loop-at l = length l.types - l.at
+abbrev pub decreases-loop-serial : goal.decreases-loop-serial
+decreases-loop-serial l = length l.rest

@@ -5,7 +5,4 @@ use Rattle.sound.specs.Cells.{cells_from}
 use Rattle.sound.proofs.check_cells.Given as goal
 
 abbrev pub invariant-loop-i : goal.invariant-loop-i
-invariant-loop-i l = cells_from l.opened l.db l.i (l.cells - l.i) ≡ cells_from l.opened l.db 0 l.cells
-
-abbrev pub decreases-loop-i : goal.decreases-loop-i
-decreases-loop-i l = l.cells - l.i
+invariant-loop-i l = cells_from l.opened l.db l.i (l.opened.cells - l.i) ≡ cells_from l.opened l.db 0 l.opened.cells

@@ -2,7 +2,6 @@
 use Prim.Native.Nat.{◌-◌}
 use mathlib.Core.Path.{sym, ap, ◌∙◌}
 use native.Mathlib.Nat.{sub-zero}
-use native.Mathlib.Omega.{arith}
 use Rattle.standing.specs.Rows.{all_rows}
 use Rattle.standing.proofs.Steps.{rows_none, rows-page}
 use Rattle.trust.specs.Trust.{first_refused}
@@ -12,45 +11,39 @@ use Rattle.trust.proofs.+first_under.Goals as goal
 pub returns-then-depth-eq0 : goal.returns-then-depth-eq0
 returns-then-depth-eq0 t c = let a = c.args in sym (ap (first_refused a.db.now) (rows_none a.depth a.db.now a.page c.if-depth-eq0.true))
 
-pub returns-in-Refused : goal.returns-in-Refused
-returns-in-Refused t c =
-    let a = c.args in
-    sym (ap (first_refused a.db.now) (rows-page a.depth a.db.now a.page c.if-depth-eq0.false (sym c.table_at-table.ensures ∙ c.in-Refused.is)))
+pub returns-in-Err : goal.returns-in-Err
+returns-in-Err t c = let a = c.args in sym (ap (first_refused a.db.now) (rows-page a.depth a.db.now a.page c.if-depth-eq0.false (sym c.in-Err.ensures)))
 
 pub first_of-requires : goal.first_of-requires
-first_of-requires t c = let a = c.args in leaf-named a.db.now a.page (sym c.table_at-table.ensures ∙ c.in-Leaf.is)
+first_of-requires t c = let a = c.args in leaf-named a.db.now a.page (rw c.in-Ok-Leaf.field-0-is at (sym c.in-Ok-Leaf.ensures))
 
-pub returns-in-Leaf : goal.returns-in-Leaf
-returns-in-Leaf t c =
+pub returns-in-Ok-Leaf : goal.returns-in-Ok-Leaf
+returns-in-Ok-Leaf t c =
     let a = c.args in
-    c.first_of.ensures ∙ sym (ap (first_refused a.db.now) (rows-page a.depth a.db.now a.page c.if-depth-eq0.false (sym c.table_at-table.ensures ∙ c.in-Leaf.is)))
+    c.first_of.ensures ∙ sym (ap (first_refused a.db.now) (rows-page a.depth a.db.now a.page c.if-depth-eq0.false (rw c.in-Ok-Leaf.field-0-is at (sym c.in-Ok-Leaf.ensures))))
 
 pub loop-i-init : goal.loop-i-init
-loop-i-init t c = (omega arith, rw sub-zero)
-
-pub returns-in-Refused-first : goal.returns-in-Refused-first
-returns-in-Refused-first t c =
+loop-i-init t c =
     let a = c.args in
-    let o = c.in-Interior.opened in
-    let whole = rows-page a.depth a.db.now a.page c.if-depth-eq0.false (sym c.table_at-table.ensures ∙ c.in-Interior.is) in
-    let child = rw c.child_in-child.ensures at c.first_under-first.ensures in
-    sym (ap (first_refused a.db.now) whole ∙ sym c.loop-i.invariant.1
-    ∙ child-refused a.db.now (all_rows (a.depth - 1) a.db.now) o o.cells c.loop-i.i c.loop-i-test.true (sym child ∙ c.in-Refused-first.is))
+    rw sub-zero (sym (ap (first_refused a.db.now) (rows-page a.depth a.db.now a.page c.if-depth-eq0.false (rw c.in-Ok-Interior.field-0-is at (sym c.in-Ok-Interior.ensures)))))
+
+pub returns-in-Some : goal.returns-in-Some
+returns-in-Some t c =
+    let a = c.args in
+    let o = c.in-Ok-Interior.opened in
+    let child = rw c.child_in-child.ensures at c.in-Some.ensures in
+    sym (child-refused a.db.now (all_rows (a.depth - 1) a.db.now) o o.cells c.loop-i.i c.loop-i-test.true (sym child)) ∙ c.loop-i.invariant
 
 pub loop-i-preserved : goal.loop-i-preserved
 loop-i-preserved t c =
     let a = c.args in
-    let o = c.in-Interior.opened in
-    let child = rw c.child_in-child.ensures at c.first_under-first.ensures in (
-      omega arith,
-      sym (child-shown a.db.now (all_rows (a.depth - 1) a.db.now) o o.cells c.loop-i.i c.loop-i-test.true (sym child ∙ c.in-None.is)) ∙ c.loop-i.invariant.1,
-    )
+    let o = c.in-Ok-Interior.opened in
+    let child = rw c.child_in-child.ensures at c.in_default.ensures in
+    sym (child-shown a.db.now (all_rows (a.depth - 1) a.db.now) o o.cells c.loop-i.i c.loop-i-test.true (sym child)) ∙ c.loop-i.invariant
 
-pub returns-in-Interior : goal.returns-in-Interior
-returns-in-Interior t c =
+pub returns-after-loop-i : goal.returns-after-loop-i
+returns-after-loop-i t c =
     let a = c.args in
-    let o = c.in-Interior.opened in
-    let whole = rows-page a.depth a.db.now a.page c.if-depth-eq0.false (sym c.table_at-table.ensures ∙ c.in-Interior.is) in
-    let child = rw c.last_child-child.ensures at c.first_under.ensures in
-    child ∙ sym (child-done a.db.now (all_rows (a.depth - 1) a.db.now) o o.cells c.loop-i.i c.loop-i-test.false) ∙ c.loop-i.invariant.1
-    ∙ sym (ap (first_refused a.db.now) whole)
+    let o = c.in-Ok-Interior.opened in
+    rw c.last_child.ensures at c.first_under-in-Ok-Interior.ensures
+    ∙ sym (child-done a.db.now (all_rows (a.depth - 1) a.db.now) o o.cells c.loop-i.i c.loop-i-test.false) ∙ c.loop-i.invariant

@@ -14,13 +14,13 @@ use Rattle.page.specs.Head.{pointers_end}
 use Rattle.page.specs.Open.{lies_in}
 use Rattle.cells.specs.Pointers.{pointer_at, part_at}
 use Rattle.cells.proofs.Laws.{part_length}
-use Rattle.usual.specs.declared.RowAnswer.TheVariants.{Shown}
 use Rattle.usual.specs.declared.Span.{Span}
 use Rattle.usual.specs.Short.{Start}
 use Rattle.usual.specs.Usual.{row_in}
 use Rattle.usual.proofs.Records.{start-lies}
 use Rattle.usual.proofs.Rows.{opened, head, page-is, page-long, pointer_is, cursor, says}
 use Rattle.usual.proofs.found_on.Goals as goal
+use Rattle.usual.specs.Usual.{row_with}
 
 -- where the page lies
 record Lies (o : Open) (db : List ℕ) : Type 0 where
@@ -33,36 +33,6 @@ page_lies : (o : Open) (db : List ℕ) → o.kind ≡ LeafTable → lies_in (len
 page_lies o db kind lies =
     let x = opened o db kind lies in
     record { there = x.there; short = x.short; first = head o db kind lies; long = page-long o db kind lies }
-
-pub overflow_add-behind : goal.overflow_add-behind
-overflow_add-behind c = let h = page_lies c.args.opened c.args.db.now c.requires.0 c.requires.1 in omega arith
-
-pub slice_bounds-page-end : goal.slice_bounds-page-end
-slice_bounds-page-end c = let h = page_lies c.args.opened c.args.db.now c.requires.0 c.requires.1 in omega arith
-
-pub overflow_add-first : goal.overflow_add-first
-overflow_add-first c = let h = page_lies c.args.opened c.args.db.now c.requires.0 c.requires.1 in omega arith
-
-pub overflow_mul-at : goal.overflow_mul-at
-overflow_mul-at c = let h = page_lies c.args.opened c.args.db.now c.requires.0 c.requires.1 in omega (arith, c.requires.2)
-
-pub overflow_add-at : goal.overflow_add-at
-overflow_add-at c = let h = page_lies c.args.opened c.args.db.now c.requires.0 c.requires.1 in omega (arith, c.requires.2)
-
-pub slice_bounds-be_u16-start : goal.slice_bounds-be_u16-start
-slice_bounds-be_u16-start c = let h = page_lies c.args.opened c.args.db.now c.requires.0 c.requires.1 in omega (arith, c.requires.2)
-
-pub slice_bounds-be_u16-count : goal.slice_bounds-be_u16-count
-slice_bounds-be_u16-count c = let h = page_lies c.args.opened c.args.db.now c.requires.0 c.requires.1 in omega (arith, c.requires.2)
-
-pub overflow_mul-opened : goal.overflow_mul-opened
-overflow_mul-opened c = let h = page_lies c.args.opened c.args.db.now c.requires.0 c.requires.1 in omega arith
-
-pub overflow_add-first-2 : goal.overflow_add-first-2
-overflow_add-first-2 c = let h = page_lies c.args.opened c.args.db.now c.requires.0 c.requires.1 in omega arith
-
-pub slice_bounds-row_of-end : goal.slice_bounds-row_of-end
-slice_bounds-row_of-end c = let h = page_lies c.args.opened c.args.db.now c.requires.0 c.requires.1 in omega arith
 
 -- where the row is seen: its header and its payload lie in the bytes
 record Held (o : Open) (db : List ℕ) (p : ℕ) (x : Span) : Type 0 where
@@ -90,50 +60,38 @@ module _ (g : Bool) (o : Open) (db : List ℕ) (p : ℕ) (x : Span) (kind : o.ki
 
   found : (i : ℕ) → i < o.cells → p ≡ unsigned 2 (take (length page - (o.from + 8 + 2 * i)) (drop (o.from + 8 + 2 * i) page))
       → o.from + 8 + 2 * o.cells ≤ p → p < o.end → Start g o.page.reading o.end part x
-      → row_in g o i db ≡ Shown x.number x.columns (cursor o p x)
+      → row_in g o i db ≡ row_with x.number x.columns (cursor o p x)
   found i below named behind before b =
       let n : p ≡ pointer_at o i (page_at o.at o.size db) =
       rw (tail _ (o.from + 8 + 2 * i), page-is o db kind lies) at named ∙ pointer_is o db kind lies i in
       says g o i db kind lies below p n (subst (λ k. pointers_end o.from k o.cells ≤ p) (sym kind) behind) before x (seen b)
 
-pub overflow_add-base : goal.overflow_add-base
-overflow_add-base c =
-    let a = c.args in
-    let b = held a.guarded a.opened a.db.now c.be_u16-pointer.result c.in-At.span c.requires.0 c.requires.1 c.if-end-pointer.false c.in-At.ensures in
-    omega arith
-
 pub overflow_add-base-2 : goal.overflow_add-base-2
 overflow_add-base-2 c =
     let a = c.args in
-    let b = held a.guarded a.opened a.db.now c.be_u16-pointer.result c.in-At.span c.requires.0 c.requires.1 c.if-end-pointer.false c.in-At.ensures in
+    let b = held a.guarded a.opened a.db.now c.from-pointer.result c.in_ok-span.span c.requires.leaf c.requires.lies c.if-end-pointer.false c.in_ok-span.ensures in
+    omega arith
+
+pub overflow_add-values : goal.overflow_add-values
+overflow_add-values c =
+    let a = c.args in
+    let b = held a.guarded a.opened a.db.now c.from-pointer.result c.in_ok-span.span c.requires.leaf c.requires.lies c.if-end-pointer.false c.in_ok-span.ensures in
     omega arith
 
 pub overflow_add-result : goal.overflow_add-result
 overflow_add-result c =
     let a = c.args in
-    let b = held a.guarded a.opened a.db.now c.be_u16-pointer.result c.in-At.span c.requires.0 c.requires.1 c.if-end-pointer.false c.in-At.ensures in
+    let b = held a.guarded a.opened a.db.now c.from-pointer.result c.in_ok-span.span c.requires.leaf c.requires.lies c.if-end-pointer.false c.in_ok-span.ensures in
     omega arith
 
 pub overflow_add-result-2 : goal.overflow_add-result-2
 overflow_add-result-2 c =
     let a = c.args in
-    let b = held a.guarded a.opened a.db.now c.be_u16-pointer.result c.in-At.span c.requires.0 c.requires.1 c.if-end-pointer.false c.in-At.ensures in
-    omega arith
-
-pub overflow_add-result-3 : goal.overflow_add-result-3
-overflow_add-result-3 c =
-    let a = c.args in
-    let b = held a.guarded a.opened a.db.now c.be_u16-pointer.result c.in-At.span c.requires.0 c.requires.1 c.if-end-pointer.false c.in-At.ensures in
-    omega arith
-
-pub overflow_add-result-4 : goal.overflow_add-result-4
-overflow_add-result-4 c =
-    let a = c.args in
-    let b = held a.guarded a.opened a.db.now c.be_u16-pointer.result c.in-At.span c.requires.0 c.requires.1 c.if-end-pointer.false c.in-At.ensures in
+    let b = held a.guarded a.opened a.db.now c.from-pointer.result c.in_ok-span.span c.requires.leaf c.requires.lies c.if-end-pointer.false c.in_ok-span.ensures in
     omega arith
 
 pub returns : goal.returns
 returns c =
     let a = c.args in
-    found a.guarded a.opened a.db.now c.be_u16-pointer.result c.in-At.span c.requires.0 c.requires.1 a.i c.requires.2
-    c.be_u16-pointer.ensures c.if-pointer-first.false c.if-end-pointer.false c.in-At.ensures
+    found a.guarded a.opened a.db.now c.from-pointer.result c.in_ok-span.span c.requires.leaf c.requires.lies a.i c.requires.below
+    (c.from-pointer.ensures ∙ c.be_u16.ensures) c.if-pointer-first.false c.if-end-pointer.false c.in_ok-span.ensures

@@ -1,33 +1,26 @@
 -- The header's checks, then the walk.
-use mathlib.Core.Path.{sym, ap, ◌∙◌}
-use Rattle.reading.specs.declared.Reading.TheVariants.{File as file}
-use Rattle.shape.specs.Shape.{shape_of}
-use Rattle.shape.proofs.Laws.{shape-answered, shape-unanswered}
-use Rattle.walk.specs.Counted.{count_by, count_of}
+use mathlib.Core.Path.{sym, ap}
+use Rattle.std.proofs.lemmas.Result.{err_from_is_err_and}
 use Rattle.trace.proofs.Steps.{table-flawed, table-shaped}
+use Rattle.walk.specs.Counted.{count_by, count_of}
 use Rattle.walk.proofs.count.Goals as goal
 
-pub returns-in-Refused : goal.returns-in-Refused
+pub returns-in_err-shape : goal.returns-in_err-shape
 unfolding count_of
-returns-in-Refused c =
-    let k = c in
-    let a = k.args in
-    rw (table-flawed a.root a.db.now (shape-unanswered (shape_of file a.db.now) (sym k.shape_of-shaped.ensures ∙ c.in-Refused.is)))
+returns-in_err-shape c =
+    let a = c.args in
+    let p = err_from_is_err_and c.from_residual.result c.from_residual.ensures.1 in
+    rw (p.1, p.2, table-flawed a.root a.db.now (sym c.in_err-shape.ensures))
 
-pub returns-in-Refused-walked : goal.returns-in-Refused-walked
+pub returns-in_err-walk : goal.returns-in_err-walk
 unfolding count_of
-returns-in-Refused-walked c =
-    let k = c in
-    let j = k in
-    let a = j.args in
-    rw (table-shaped a.root a.db.now (shape-answered (shape_of file a.db.now) (sym j.shape_of-shaped.ensures ∙ k.in-Shown.is)))
-    (ap count_by (sym c.in-Refused-walked.is ∙ k.walk-walked.ensures))
+returns-in_err-walk c =
+    let a = c.args in
+    let p = err_from_is_err_and c.from_residual-in_err-walk.result c.from_residual-in_err-walk.ensures.1 in
+    rw (p.1, p.2, table-shaped a.root a.db.now (sym c.in_ok-shape.ensures)) (ap count_by c.in_err-walk.ensures)
 
-pub returns-in-Done : goal.returns-in-Done
+pub returns : goal.returns
 unfolding count_of
-returns-in-Done c =
-    let k = c in
-    let j = k in
-    let a = j.args in
-    rw (table-shaped a.root a.db.now (shape-answered (shape_of file a.db.now) (sym j.shape_of-shaped.ensures ∙ k.in-Shown.is)))
-    (ap count_by (sym c.in-Done.is ∙ k.walk-walked.ensures))
+returns c =
+    let a = c.args in
+    rw (table-shaped a.root a.db.now (sym c.in_ok-shape.ensures)) (ap count_by c.in_ok-walk.ensures)

@@ -6,9 +6,7 @@ use Rattle.trace.specs.Counted.{counted}
 use Rattle.walk.proofs.leaf.Given as goal
 
 abbrev pub invariant-loop-i : goal.invariant-loop-i
-invariant-loop-i l =
-    (l.i ≤ l.cells)
-    × (counted l.n (leaf_of l.opened l.db l.most (l.cells - l.i) l.i (state l.visits l.low)) ≡ counted l.initial.n (leaf_of l.opened l.db l.most l.cells 0 (state l.visits l.initial.low)))
-
-abbrev pub decreases-loop-i : goal.decreases-loop-i
-decreases-loop-i l = l.cells - l.i
+invariant-loop-i l = record {
+  counts : l.n ≤ 18446744073709551615;
+  rest : counted l.n (leaf_of l.opened l.db l.most (l.opened.cells - l.i) l.i (state l.state.visits l.low)) ≡ counted l.count (leaf_of l.opened l.db l.most l.opened.cells 0 l.state);
+}

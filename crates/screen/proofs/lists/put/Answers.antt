@@ -7,6 +7,5 @@ use Rattle.screen.proofs.lists.put.Goals as goal
 
 pub returns : goal.returns
 returns c =
-    let s = c in
-    let a = s.args in
-    laid_through a.answers.now (shown_words a.shown) _ (8 * a.i) (8 * a.i + 8) c.put_shown.ensures refl s.requires
+    let a = c.args in
+    laid_through a.answers.now (shown_words a.shown) _ (8 * a.i) (8 * a.i + 8) c.put_shown.ensures refl c.requires

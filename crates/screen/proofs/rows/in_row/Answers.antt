@@ -46,15 +46,14 @@ stored db reading first at addresses going same room column is s =
 
 pub loop-column-init : goal.loop-column-init
 loop-column-init c =
-    let p = c.requires in
-    (going-first p.2, same_first _ _ _ p.2, before-first p.0, p.1.0, p.1.1, p.1.2)
+    (going-first c.requires.there, same_first _ _ _ c.requires.there, before-first c.requires.whole, c.requires.room)
 
 pub type_at-serial-requires : goal.type_at-serial-requires
 type_at-serial-requires c =
     let a = c.args in
     let b : Before a.first a.columns a.db.now c.if-k-column.here c.column_at-k.result =
     elim c.if-k-column.branch [
-      | then-k-column w ↦ come c.requires.0 (w.here-is ∙ w.past-here.ensures) (omega arith)
+      | then-k-column w ↦ come c.requires.whole (w.here-is ∙ w.past-here.ensures) (omega arith)
       | else-k-column w ↦ stay c.loop-column.invariant.2 w.here-is w.if-k-column.false
     ] in
     coming b c.if-k-columns.true
@@ -64,11 +63,14 @@ moved-here-requires c =
     let a = c.args in
     let b : Before a.first a.columns a.db.now c.if-k-column.here c.column_at-k.result =
     elim c.if-k-column.branch [
-      | then-k-column w ↦ come c.requires.0 (w.here-is ∙ w.past-here.ensures) (omega arith)
+      | then-k-column w ↦ come c.requires.whole (w.here-is ∙ w.past-here.ensures) (omega arith)
       | else-k-column w ↦ stay c.loop-column.invariant.2 w.here-is w.if-k-column.false
     ] in
     let e = c.type_at-serial.ensures in
-    (omega (arith, type-ends b c.if-k-columns.true e, b.left.header), omega (arith, value-ends b c.if-k-columns.true e, b.left.within))
+    record {
+      type_ends = omega (arith, type-ends b c.if-k-columns.true e, b.left.header);
+      value_ends = omega (arith, value-ends b c.if-k-columns.true e, b.left.within);
+    }
 
 pub returns-then-not-names_same : goal.returns-then-not-names_same
 returns-then-not-names_same c =
@@ -79,16 +81,16 @@ returns-then-not-names_same c =
       | then-k-columns w ↦
           let b : Before a.first a.columns a.db.now w.if-k-column.here c.column_at-k.result =
           elim w.if-k-column.branch [
-            | then-k-column v ↦ come c.requires.0 (v.here-is ∙ v.past-here.ensures) (omega (arith, w.if-k-columns.true))
+            | then-k-column v ↦ come c.requires.whole (v.here-is ∙ v.past-here.ensures) (omega (arith, w.if-k-columns.true))
             | else-k-column v ↦ stay i.2 v.here-is v.if-k-column.false
           ] in
           let v = w.value_shown-shown.ensures in
-          stored a.db.now a.reading a.first a.at a.addresses.now i.0 i.1 i.3 c.column_at-k.ensures
-          (shown-found a.reading page a.db.now (column-here b w.if-k-columns.true w.type_at-serial.ensures) v.0 v.1) (w.answers-is ∙ w.put.ensures)
+          stored a.db.now a.reading a.first a.at a.addresses.now i.0 i.1 i.3.0 c.column_at-k.ensures
+          (shown-found a.reading page a.db.now (column-here b w.if-k-columns.true w.type_at-serial.ensures) v.refused v.value) (w.answers-is ∙ w.put.ensures)
       | else-k-columns w ↦
-          let none = none-behind c.requires.0 c.column_at-k.result w.if-k-columns.false in
-          stored a.db.now a.reading a.first a.at a.addresses.now i.0 i.1 i.3 c.column_at-k.ensures
-          (w.none_shown-shown.ensures ∙ ap (λ (n : ℕ). refused_shown (OnPage n NoSuchColumn)) w.page_at.ensures ∙ ap (slot_shown a.reading page a.db.now) (sym none))
+          let none = none-behind c.requires.whole c.column_at-k.result w.if-k-columns.false in
+          stored a.db.now a.reading a.first a.at a.addresses.now i.0 i.1 i.3.0 c.column_at-k.ensures
+          (w.refused_shown.ensures ∙ ap (λ (n : ℕ). refused_shown (OnPage n NoSuchColumn)) w.page_at-page.ensures ∙ ap (slot_shown a.reading page a.db.now) (sym none))
           (w.answers-is ∙ w.put-else-k-columns.ensures)
     ]
 
@@ -103,18 +105,18 @@ loop-column-preserved c =
       | then-k-columns w ↦
           let b : Before a.first a.columns a.db.now w.if-k-column.here c.column_at-k.result =
           elim w.if-k-column.branch [
-            | then-k-column v ↦ come c.requires.0 (v.here-is ∙ v.past-here.ensures) (omega (arith, w.if-k-columns.true))
+            | then-k-column v ↦ come c.requires.whole (v.here-is ∙ v.past-here.ensures) (omega (arith, w.if-k-columns.true))
             | else-k-column v ↦ stay i.2 v.here-is v.if-k-column.false
           ] in
           let v = w.value_shown-shown.ensures in
           let e = w.type_at-serial.ensures in
-          let s = stored a.db.now a.reading a.first a.at a.addresses.now i.0 i.1 i.3 c.column_at-k.ensures
-          (shown-found a.reading page a.db.now (column-here b w.if-k-columns.true e) v.0 v.1) (w.answers-is ∙ w.put.ensures) in
-          (going_on s same.there, same, stay (before-next b w.if-k-columns.true e (w.here-is ∙ w.moved-here.ensures)) refl w.column-is, i.3, i.4, i.5)
+          let s = stored a.db.now a.reading a.first a.at a.addresses.now i.0 i.1 i.3.0 c.column_at-k.ensures
+          (shown-found a.reading page a.db.now (column-here b w.if-k-columns.true e) v.refused v.value) (w.answers-is ∙ w.put.ensures) in
+          (going_on s same.there, same, stay (before-next b w.if-k-columns.true e (w.here-is ∙ w.moved-here.ensures)) refl w.column-is, i.3)
       | else-k-columns w ↦
-          let none = none-behind c.requires.0 c.column_at-k.result w.if-k-columns.false in
-          let s = stored a.db.now a.reading a.first a.at a.addresses.now i.0 i.1 i.3 c.column_at-k.ensures
-          (w.none_shown-shown.ensures ∙ ap (λ (n : ℕ). refused_shown (OnPage n NoSuchColumn)) w.page_at.ensures ∙ ap (slot_shown a.reading page a.db.now) (sym none))
+          let none = none-behind c.requires.whole c.column_at-k.result w.if-k-columns.false in
+          let s = stored a.db.now a.reading a.first a.at a.addresses.now i.0 i.1 i.3.0 c.column_at-k.ensures
+          (w.refused_shown.ensures ∙ ap (λ (n : ℕ). refused_shown (OnPage n NoSuchColumn)) w.page_at-page.ensures ∙ ap (slot_shown a.reading page a.db.now) (sym none))
           (w.answers-is ∙ w.put-else-k-columns.ensures) in
-          (going_on s same.there, same, stay i.2 w.here-is w.column-is, i.3, i.4, i.5)
+          (going_on s same.there, same, stay i.2 w.here-is w.column-is, i.3)
     ]

@@ -1,5 +1,5 @@
 -- The value of each address, as long as they name the row: the cursor stands before the column, and the list goes on.
-use Prim.Native.Nat.{ℕ, ◌*◌, ◌-◌, ◌<◌, ◌^◌, ◌≤◌}
+use Prim.Native.Nat.{ℕ, ◌-◌}
 use mathlib.Core.List.{List}
 use Rattle.reading.specs.declared.Reading.{Reading}
 use Rattle.columns.specs.declared.Cursor.{Cursor}
@@ -7,10 +7,9 @@ use Rattle.columns.specs.Columns.{slot_of}
 use Rattle.turns.specs.declared.types.Shown.{Shown}
 use Rattle.chosen.specs.Chosen.{slot_shown}
 use Rattle.addresses.specs.Screen.{Address}
-use Rattle.addresses.specs.Turns.{CellAnswers, named_cell, named_page}
+use Rattle.addresses.specs.Turns.{Room, CellAnswers, named_cell, named_page}
 use Rattle.addresses.proofs.Lists.{Going, Same}
 use Rattle.screen.proofs.Columns.{Before}
-use lib.ListN.{length}
 use Rattle.screen.proofs.rows.in_row.Given as goal
 
 -- what the columns of the row are answered
@@ -23,9 +22,7 @@ invariant-loop-column l =
     Going (Columns l.db l.reading l.first l.at l.addresses) l.count l.addresses l.at l.i l.initial.answers l.answers
     × Same l.addresses l.count l.i l.at
     × Before l.first l.columns l.db l.here l.column
-    × (3 * l.count ≤ length l.addresses)
-    × (8 * l.count ≤ length l.initial.answers)
-    × (8 * l.count < 2 ^ 64)
+    × Room l.count l.addresses l.initial.answers
 
 abbrev pub decreases-loop-column : goal.decreases-loop-column
 decreases-loop-column l = l.count - l.i

@@ -3,7 +3,6 @@ use mathlib.Core.Path.{sym, ap, ◌∙◌}
 use mir.Syntax.{w8, w16, w32, w64}
 use mir.Facts.{to_z-of_z}
 use native.Mathlib.Omega.{arith}
-use Rattle.laws.proofs.Casts.{widen-same}
 use Rattle.values.specs.File.{value_of}
 use Rattle.values.specs.declared.file.Value.TheVariants.{Integer}
 use Rattle.values.proofs.Laws.{file-long}
@@ -16,22 +15,26 @@ returns-in-0 c = rw c.in-0.is
 pub returns-in-1 : goal.returns-in-1
 unfolding value_of
 returns-in-1 c =
-    rw c.in-1.is (ap Integer (widen-same w8 c.be_i8.result c.be_i8.type_inv tt ∙ c.be_i8.ensures))
+    rw c.in-1.is
+    (ap Integer (to_z-of_z {w = w64} (record { sfits = c.from.type_inv }) ∙ c.from.ensures ∙ to_z-of_z {w = w8} (record { sfits = c.be_i8.type_inv }) ∙ c.be_i8.ensures))
 
 pub returns-in-2 : goal.returns-in-2
 unfolding value_of
 returns-in-2 c =
-    rw c.in-2.is (ap Integer (widen-same w16 c.be_i16.result c.be_i16.type_inv tt ∙ c.be_i16.ensures))
+    rw c.in-2.is
+    (ap Integer (to_z-of_z {w = w64} (record { sfits = c.from-in-2.type_inv }) ∙ c.from-in-2.ensures ∙ to_z-of_z {w = w16} (record { sfits = c.be_i16.type_inv }) ∙ c.be_i16.ensures))
 
 pub returns-in-3 : goal.returns-in-3
 unfolding value_of
 returns-in-3 c =
-    rw c.in-3.is (ap Integer (widen-same w32 c.be_i24.result c.be_i24.type_inv tt ∙ c.be_i24.ensures))
+    rw c.in-3.is
+    (ap Integer (to_z-of_z {w = w64} (record { sfits = c.from-in-3.type_inv }) ∙ c.from-in-3.ensures ∙ to_z-of_z {w = w32} (record { sfits = c.be_i24.type_inv }) ∙ c.be_i24.ensures))
 
 pub returns-in-4 : goal.returns-in-4
 unfolding value_of
 returns-in-4 c =
-    rw c.in-4.is (ap Integer (widen-same w32 c.be_i32.result c.be_i32.type_inv tt ∙ c.be_i32.ensures))
+    rw c.in-4.is
+    (ap Integer (to_z-of_z {w = w64} (record { sfits = c.from-in-4.type_inv }) ∙ c.from-in-4.ensures ∙ to_z-of_z {w = w32} (record { sfits = c.be_i32.type_inv }) ∙ c.be_i32.ensures))
 
 pub returns-in-5 : goal.returns-in-5
 unfolding value_of

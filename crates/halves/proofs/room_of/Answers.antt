@@ -1,8 +1,0 @@
--- A half has half of the places, rounded down.
-use Rattle.halves.proofs.room_of.Goals as goal
-
-pub returns-in-First : goal.returns-in-First
-returns-in-First c = rw c.in-First.is
-
-pub returns-in-Second : goal.returns-in-Second
-returns-in-Second c = rw c.in-Second.is

@@ -1,7 +1,0 @@
--- The byte is read where there is one.
-use mathlib.Core.Path.{sym}
-use lib.ListN.{get_or-eq_default}
-use Rattle.table.proofs.byte_at.Goals as goal
-
-pub returns : goal.returns
-returns c = sym (get_or-eq_default c.args.s.now 0 {n = c.args.i} c.if-i-s.false)
