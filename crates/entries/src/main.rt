@@ -5,6 +5,7 @@
 
 use place::Page;
 use print::input::read_full;
+use print::{number, signed, text};
 use std::io;
 use std::io::Write;
 
@@ -13,13 +14,13 @@ fn main(rt: HostRuntime) -> io::Result<()> {
     let n = read_full(&mut rt.stdin(), &mut buffer)?;
     let db = &buffer[..n];
     let mut to = rt.stdout();
-    writeln!(&mut to, "old page 0")?;
+    text(&mut to, b"old page 0\n")?;
     show_page(&mut to, db, place::old(0))?;
-    writeln!(&mut to, "old page 1")?;
+    text(&mut to, b"old page 1\n")?;
     show_page(&mut to, db, place::old(1))?;
-    writeln!(&mut to, "file page 0")?;
+    text(&mut to, b"file page 0\n")?;
     show_page(&mut to, db, place::file(0))?;
-    writeln!(&mut to, "file page 1")?;
+    text(&mut to, b"file page 1\n")?;
     show_page(&mut to, db, place::file(1))
 }
 
@@ -35,14 +36,22 @@ fn show_answer<W: Write>(to: &mut W, db: &[u8], asked: Page) -> io::Result<()> {
     let probed = probe::probe(db, asked, 0);
     let answer = probed.answer;
     match answer {
-        Ok(head) => writeln!(
-            to,
-            "  shown, kind {}, cells {}, content from {}",
-            head.kind, head.cells, head.content_start
-        ),
+        Ok(head) => {
+            text(to, b"  shown, kind ")?;
+            number(to, head.kind as u64)?;
+            text(to, b", cells ")?;
+            number(to, head.cells as u64)?;
+            text(to, b", content from ")?;
+            number(to, head.content_start as u64)?;
+            text(to, b"\n")
+        }
         Err(refusal) => {
             let numbers = answers::numbers_of(refusal);
-            writeln!(to, "  refused {}, page {}", numbers.number, numbers.page)
+            text(to, b"  refused ")?;
+            number(to, numbers.number as u64)?;
+            text(to, b", page ")?;
+            number(to, numbers.page as u64)?;
+            text(to, b"\n")
         }
     }
 }
@@ -51,15 +60,19 @@ fn show_answer<W: Write>(to: &mut W, db: &[u8], asked: Page) -> io::Result<()> {
 fn show_place<W: Write>(to: &mut W, db: &[u8], asked: Page, i: usize) -> io::Result<()> {
     let probed = probe::probe(db, asked, i);
     let entry = probed.entry;
-    writeln!(
-        to,
-        "  {} {} {} {} {} {} {}",
-        entry.kind,
-        entry.pointer,
-        entry.child,
-        entry.payload_size,
-        entry.row,
-        entry.header_size,
-        entry.columns
-    )
+    text(to, b"  ")?;
+    number(to, entry.kind as u64)?;
+    spaced(to, entry.pointer as u64)?;
+    spaced(to, entry.child as u64)?;
+    spaced(to, entry.payload_size)?;
+    text(to, b" ")?;
+    signed(to, entry.row)?;
+    spaced(to, entry.header_size)?;
+    spaced(to, entry.columns as u64)?;
+    text(to, b"\n")
+}
+
+fn spaced<W: Write>(to: &mut W, n: u64) -> io::Result<()> {
+    text(to, b" ")?;
+    number(to, n)
 }

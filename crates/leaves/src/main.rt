@@ -8,7 +8,7 @@
 
 mod shown;
 
-use print::hex;
+use print::{hex, number, text};
 use shown::{file_value, found, old_value};
 use std::io;
 use std::io::Write;
@@ -70,29 +70,31 @@ fn long<W: Write>(to: &mut W) -> io::Result<()> {
 }
 
 fn varint_row<W: Write>(to: &mut W, s: &[u8]) -> io::Result<()> {
-    write!(to, "varint ")?;
+    text(to, b"varint ")?;
     bytes(to, s)?;
-    write!(to, " old ")?;
+    text(to, b" old ")?;
     found(to, varint::read(s, OLD_LIMIT))?;
-    write!(to, " file ")?;
+    text(to, b" file ")?;
     found(to, varint::read(s, FILE_LIMIT))?;
-    writeln!(to)
+    text(to, b"\n")
 }
 
 fn value_row<W: Write>(to: &mut W, kind: u64, s: &[u8]) -> io::Result<()> {
-    write!(to, "type {kind} ")?;
+    text(to, b"type ")?;
+    number(to, kind)?;
+    text(to, b" ")?;
     bytes(to, s)?;
-    write!(to, " old ")?;
+    text(to, b" old ")?;
     old_value(to, values::old::value_of(kind, s, 0), s)?;
-    write!(to, " file ")?;
+    text(to, b" file ")?;
     file_value(to, values::file::value_of(kind, s, 0), s)?;
-    writeln!(to)
+    text(to, b"\n")
 }
 
 // The bytes of a row.
 fn bytes<W: Write>(to: &mut W, s: &[u8]) -> io::Result<()> {
-    if s.is_empty() {
-        return write!(to, "-");
+    if s.len() == 0 {
+        return text(to, b"-");
     }
     hex(to, s)
 }

@@ -1,7 +1,7 @@
 // What the old reading shows of a cell: its integers have the Rust's widths, which are not printed.
 use answers::Refusal;
 use columns::Cursor;
-use print::{refused, signed_field, text};
+use print::out::{field_i64, refused, text};
 use row::FoundCell;
 use std::io;
 use std::io::Write;
@@ -9,31 +9,57 @@ use values::file;
 use values::old::Value;
 
 // The rest of a cell's line: the row number and the values, or the refusal.
-pub fn row<W: Write>(to: &mut W, db: &[u8], answer: Result<FoundCell, Refusal>) -> io::Result<()> {
+pub fn row<W: Write>(
+    to: &mut W,
+    db: &[u8],
+    out: &mut [u8],
+    at: usize,
+    answer: Result<FoundCell, Refusal>,
+) -> io::Result<usize> {
     match answer {
-        Err(refusal) => refused(to, answers::numbers_of(refusal)),
+        Err(refusal) => refused(to, out, at, answers::numbers_of(refusal)),
         Ok(found) => {
-            signed_field(to, fields::signed_of(found.cell.row.value))?;
-            values(to, db, found.cursor, found.cell.columns)?;
-            text(to, b"\n")
+            let n = field_i64(to, out, at, fields::signed_of(found.cell.row.value))?;
+            let n = values(to, db, out, n, found.cursor, found.cell.columns)?;
+            text(to, out, n, b"\n")
         }
     }
 }
 
 // At most as many values as are counted, so that the loop is seen to end.
-fn values<W: Write>(to: &mut W, db: &[u8], first: Cursor, count: usize) -> io::Result<()> {
+fn values<W: Write>(
+    to: &mut W,
+    db: &[u8],
+    out: &mut [u8],
+    at: usize,
+    first: Cursor,
+    count: usize,
+) -> io::Result<usize> {
+    let mut n = at;
     let mut here = first;
-    for _ in 0..count {
+    let mut left = count;
+    while 0 < left {
         let Some(column) = row_values::old::next(db, here) else {
-            return Ok(());
+            return Ok(n);
         };
-        texts::value(to, db, widened(column.value))?;
+        n = value(to, db, out, n, column.value)?;
         here = column.next;
+        left -= 1;
     }
-    Ok(())
+    Ok(n)
 }
 
 // A value is written as one of the file reading, whatever width its type has.
+fn value<W: Write>(
+    to: &mut W,
+    db: &[u8],
+    out: &mut [u8],
+    at: usize,
+    v: Value,
+) -> io::Result<usize> {
+    texts::value(to, db, out, at, widened(v))
+}
+
 fn widened(v: Value) -> file::Value {
     match v {
         Value::Null => file::Value::Null,

@@ -4,6 +4,7 @@
 
 use answers::Refusal;
 use print::input::read_full;
+use print::{number, text};
 use spilled::ValueIn;
 use spills::Source;
 use std::io;
@@ -15,11 +16,11 @@ fn main(rt: HostRuntime) -> io::Result<()> {
     let n = read_full(&mut rt.stdin(), &mut buffer)?;
     let db = &buffer[..n];
     let mut to = rt.stdout();
-    writeln!(&mut to, "a note on its page")?;
+    text(&mut to, b"a note on its page\n")?;
     show(&mut to, db, 0)?;
-    writeln!(&mut to, "a note that spills")?;
+    text(&mut to, b"a note that spills\n")?;
     show(&mut to, db, 1)?;
-    writeln!(&mut to, "a note whose chain is damaged")?;
+    text(&mut to, b"a note whose chain is damaged\n")?;
     show(&mut to, db, 2)
 }
 
@@ -27,10 +28,10 @@ fn main(rt: HostRuntime) -> io::Result<()> {
 fn show<W: Write>(to: &mut W, db: &[u8], i: usize) -> io::Result<()> {
     let mut gather = [0u8; 65_536];
     let answer = spilled::value(db, 2, i, 2, &mut gather);
-    write!(to, "  file ")?;
+    text(to, b"  file ")?;
     shown(to, db, &gather, answer)?;
     let answer = marked::value(db, 2, i, 2, &mut gather);
-    write!(to, "  guarded ")?;
+    text(to, b"  guarded ")?;
     shown(to, db, &gather, answer)
 }
 
@@ -43,28 +44,31 @@ fn shown<'a, W: Write>(
     match answer {
         Err(refusal) => refused(to, refusal),
         Ok(ValueIn { value, source }) => {
-            let Value::Text { at, len } = value else {
-                return writeln!(to, "no text");
-            };
-            write!(to, "in the {}: ", from(source))?;
-            to.write_all(spills::bytes_of(db, gather, source, at, len))?;
-            writeln!(to)
+            if let Value::Text { at, len } = value {
+                from(to, source)?;
+                text(to, spills::bytes_of(db, gather, source, at, len))?;
+                text(to, b"\n")
+            } else {
+                text(to, b"no text\n")
+            }
         }
     }
 }
 
-fn from(source: Source) -> &'static str {
+fn from<W: Write>(to: &mut W, source: Source) -> io::Result<()> {
     match source {
-        Source::Database => "database",
-        Source::Buffer => "buffer",
+        Source::Database => text(to, b"in the database: "),
+        Source::Buffer => text(to, b"in the buffer: "),
     }
 }
 
 fn refused<W: Write>(to: &mut W, refusal: Refusal) -> io::Result<()> {
     let numbers = answers::numbers_of(refusal);
-    writeln!(
-        to,
-        "refused {}, page {}, mark {}",
-        numbers.number, numbers.page, numbers.mark
-    )
+    text(to, b"refused ")?;
+    number(to, numbers.number as u64)?;
+    text(to, b", page ")?;
+    number(to, numbers.page as u64)?;
+    text(to, b", mark ")?;
+    number(to, numbers.mark as u64)?;
+    text(to, b"\n")
 }

@@ -1,6 +1,6 @@
 pub mod Signs
+pub mod Spelt
 pub mod Spelling
 pub mod Places
-pub mod Hexes
-pub mod Waits
+pub mod Gathering
 pub mod Written

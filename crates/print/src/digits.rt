@@ -22,8 +22,10 @@ pub fn decimal(n: u64, out: &mut [u8; 20]) -> usize
 pub fn hexadecimal(n: u64, out: &mut [u8; 16])
     ensures { out.new ≡ bits_of n }
 {
+    let mut at: usize = 16;
     let mut rest = n;
-    for at in (0..16).rev() {
+    while 0 < at {
+        at -= 1;
         out[at] = crate::digit((rest % 16) as u8);
         rest /= 16;
     }

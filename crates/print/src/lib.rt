@@ -1,24 +1,21 @@
-// What our programs write with: text, numbers and bytes. And (`out`) a writer that gathers what it is given, and (`input`) what they
-// read with.
+// What our programs write with: text, numbers and bytes, at once or (`out`) gathered in a buffer. And (`input`) what they read with.
 //
 // A writer is lent to each function. Where its bytes are known, as those of one over memory are, the contracts say what is
-// appended to them, and that it is a beginning of that where a write failed; of a system's file no contract can.
-//
-// std's `write!` says nothing of a write that failed, so what has a contract here is not made of it.
+// appended to them, and that it is a beginning of that where a write failed; of a system's file no contract can. Those of `out` promise
+// what they gather.
 #![tactic(auto)]
 
 mod digits;
 pub mod input;
 pub mod out;
 
-ghost use Rattle.std.specs.Prelude.{◌≡◌, ◌∷◌, ◌++◌, ◌*◌, ◌<◌, ◌≤◌, OnErr, OnOk, length, take};
+ghost use Rattle.std.specs.Prelude.{◌≡◌, ◌*◌, ◌<◌, ◌≤◌, OnErr, OnOk, nat_abs, length, take};
 ghost use Rattle.std.specs.Io.KnownBytes.{Appends};
 ghost use Rattle.print.specs.Begun.{AppendsBeginning};
 ghost use Rattle.print.specs.Digits.{hex_digit_ascii};
 ghost use Rattle.print.specs.Hex.{hex_of};
-ghost use Rattle.print.specs.Text.{bits_of, decimal_of, field_of, refused_of, signed_of};
+ghost use Rattle.print.specs.Text.{bits_of, decimal_of, signed_of};
 
-use answers::Numbers;
 use digits::{decimal, hexadecimal};
 use std::io;
 use std::io::Write;
@@ -27,13 +24,13 @@ pub fn text<W: Write>(to: &mut W, s: &[u8]) -> io::Result<()>
     ensures written { OnOk result (Appends (W.contents to.old) (W.contents to.new) s.now) }
     ensures begun { OnErr result (AppendsBeginning (W.contents to.old) (W.contents to.new) s.now) }
 {
-    let mut rest = s;
-    while !rest.is_empty() {
-        let n = to.write(rest)?;
+    let mut at: usize = 0;
+    while at < s.len() {
+        let n = to.write(&s[at..])?;
         if n == 0 {
             return Err(io::Error::from(io::ErrorKind::WriteZero));
         }
-        rest = &rest[n..];
+        at += n;
     }
     Ok(())
 }
@@ -53,10 +50,22 @@ pub fn signed<W: Write>(to: &mut W, z: i64) -> io::Result<()>
     ensures written { OnOk result (Appends (W.contents to.old) (W.contents to.new) (signed_of z)) }
     ensures begun { OnErr result (AppendsBeginning (W.contents to.old) (W.contents to.new) (signed_of z)) }
 {
+    let size = magnitude(z);
     if z < 0 {
         text(to, b"-")?;
+        return number(to, size);
     }
-    number(to, z.unsigned_abs())
+    number(to, size)
+}
+
+// The number without its sign. The opposite of the least number is no i64, but -1 - z always is.
+fn magnitude(z: i64) -> u64
+    ensures { result ≡ nat_abs z }
+{
+    if z < 0 {
+        return (-1 - z) as u64 + 1;
+    }
+    z as u64
 }
 
 // All 64 bits, as 16 hexadecimal digits in lower case.
@@ -77,10 +86,13 @@ pub fn hex<W: Write>(to: &mut W, s: &[u8]) -> io::Result<()>
     ensures written { OnOk result (Appends (W.contents to.old) (W.contents to.new) (hex_of s.now)) }
     ensures begun { OnErr result (AppendsBeginning (W.contents to.old) (W.contents to.new) (hex_of s.now)) }
 {
-    for part in s.chunks(CHUNK) {
-        chunk(to, part)?;
+    let mut at: usize = 0;
+    while CHUNK < s.len() - at {
+        let end = at + CHUNK;
+        chunk(to, &s[at..end])?;
+        at = end;
     }
-    Ok(())
+    chunk(to, &s[at..])
 }
 
 // One write of `hex`.
@@ -100,11 +112,13 @@ fn spell(s: &[u8], out: &mut [u8]) -> usize
     ensures in_bounds { result ≤ length out.new }
     ensures out_after { take result out.new ≡ hex_of s.now }
 {
-    for (i, &b) in s.iter().enumerate() {
-        out[2 * i] = digit(b / 16);
-        out[2 * i + 1] = digit(b % 16);
+    let mut i: usize = 0;
+    while i < s.len() {
+        out[2 * i] = digit(s[i] / 16);
+        out[2 * i + 1] = digit(s[i] % 16);
+        i += 1;
     }
-    2 * s.len()
+    2 * i
 }
 
 fn digit(d: u8) -> u8
@@ -112,64 +126,4 @@ fn digit(d: u8) -> u8
     ensures { result ≡ hex_digit_ascii d }
 {
     if d < 10 { b'0' + d } else { b'a' + (d - 10) }
-}
-
-// FIELDS OF A LINE: a space, and a number
-
-pub fn field<W: Write>(to: &mut W, n: u64) -> io::Result<()>
-    ensures written { OnOk result (Appends (W.contents to.old) (W.contents to.new) (field_of n)) }
-    ensures begun { OnErr result (AppendsBeginning (W.contents to.old) (W.contents to.new) (field_of n)) }
-{
-    text(to, b" ")?;
-    number(to, n)
-}
-
-pub fn signed_field<W: Write>(to: &mut W, z: i64) -> io::Result<()>
-    ensures written { OnOk result (Appends (W.contents to.old) (W.contents to.new) (0x20 ∷ signed_of z)) }
-    ensures begun { OnErr result (AppendsBeginning (W.contents to.old) (W.contents to.new) (0x20 ∷ signed_of z)) }
-{
-    text(to, b" ")?;
-    signed(to, z)
-}
-
-// The end of a line that is refused.
-pub fn refused<W: Write>(to: &mut W, numbers: Numbers) -> io::Result<()>
-    ensures written { OnOk result (Appends (W.contents to.old) (W.contents to.new) (refused_of numbers)) }
-    ensures begun { OnErr result (AppendsBeginning (W.contents to.old) (W.contents to.new) (refused_of numbers)) }
-{
-    text(to, b" refused")?;
-    field(to, u64::from(numbers.number))?;
-    field(to, u64::from(numbers.page))?;
-    field(to, numbers.cell as u64)?;
-    field(to, numbers.column as u64)?;
-    field(to, u64::from(numbers.mark))?;
-    text(to, b"\n")
-}
-
-// VALUES: a space and the sort, as the caller spells them, and what it is
-
-pub fn integer<W: Write>(to: &mut W, sort: &[u8], z: i64) -> io::Result<()>
-    ensures written { OnOk result (Appends (W.contents to.old) (W.contents to.new) (sort.now ++ signed_of z)) }
-    ensures begun { OnErr result (AppendsBeginning (W.contents to.old) (W.contents to.new) (sort.now ++ signed_of z)) }
-{
-    text(to, sort)?;
-    signed(to, z)
-}
-
-// By its bits, which tell one NaN from another, and -0.0 from 0.
-pub fn real<W: Write>(to: &mut W, sort: &[u8], n: u64) -> io::Result<()>
-    ensures written { OnOk result (Appends (W.contents to.old) (W.contents to.new) (sort.now ++ bits_of n)) }
-    ensures begun { OnErr result (AppendsBeginning (W.contents to.old) (W.contents to.new) (sort.now ++ bits_of n)) }
-{
-    text(to, sort)?;
-    bits(to, n)
-}
-
-// The bytes of a text or a blob.
-pub fn long<W: Write>(to: &mut W, sort: &[u8], s: &[u8]) -> io::Result<()>
-    ensures written { OnOk result (Appends (W.contents to.old) (W.contents to.new) (sort.now ++ hex_of s.now)) }
-    ensures begun { OnErr result (AppendsBeginning (W.contents to.old) (W.contents to.new) (sort.now ++ hex_of s.now)) }
-{
-    text(to, sort)?;
-    hex(to, s)
 }

@@ -1,110 +1,195 @@
-// A writer that gathers what it is given in an array, and hands it on where the array is full: a write for each number would take most of
-// the time. It is std's `BufWriter` with memory of its own, since nothing here is taken from a heap, and it does not write where it is
-// dropped: what waits at the end is handed on by `flush`.
-ghost use Rattle.std.specs.Prelude.{◌≡◌, [], OnErr, OnOk};
-ghost use Rattle.std.specs.Io.{WritesAtMost};
-ghost use Rattle.std.specs.Io.KnownBytes.{Appends, Keeps, WriteAppends};
+// Output that is gathered in a lent buffer: a write for each number would take most of the time.
+//
+// Each function is lent the writer, told how many bytes wait at the start of the buffer, and answers how many wait then. What it puts
+// there is in its contract; that a full buffer is written before it is used again is not. Where a write fails, the buffer holds what was
+// put before it.
+ghost use Rattle.std.specs.Prelude.{◌≡◌, [], ◌∷◌, ◌++◌, IfOk, OnOk, OnErr, take};
+ghost use Rattle.std.specs.Io.KnownBytes.{Appends};
 ghost use Rattle.print.specs.Begun.{AppendsBeginning};
-ghost use Rattle.print.specs.Out.{out_contents, out_waiting};
+ghost use Rattle.print.specs.Hex.{hex_of};
+ghost use Rattle.print.specs.Gathered.{HoldsBeginning, gathered, puts};
+ghost use Rattle.print.specs.Text.{bits_of, decimal_of, field_of, refused_of, signed_of};
 
-mod waiting;
-
+use answers::Numbers;
 use std::io;
 use std::io::Write;
-use waiting::Waiting;
 
-#[derive(Drop)]
-pub struct Out<W, const N: usize> {
-    to: W,
-    waits: Waiting<N>,
+// Writes what waits.
+pub fn flush<W: Write>(to: &mut W, out: &[u8], at: usize) -> io::Result<()>
+    ensures written { OnOk result (Appends (W.contents to.old) (W.contents to.new) (take at out.now)) }
+    ensures begun { OnErr result (AppendsBeginning (W.contents to.old) (W.contents to.new) (take at out.now)) }
+{
+    if at < out.len() {
+        return crate::text(to, &out[0..at]);
+    }
+    crate::text(to, out)
 }
 
-impl<W: Write, const N: usize> Out<W, N> {
-    pub fn new(to: W) -> Out<W, N>
-        ensures { Keeps (W.contents to) (out_contents W.contents result) }
-    {
-        Out {
-            to,
-            waits: Waiting::new(),
-        }
+// A buffer that is full is written first.
+fn byte<W: Write>(to: &mut W, out: &mut [u8], at: usize, b: u8) -> io::Result<usize>
+    ensures ok { IfOk result (λ n. gathered out.new n ≡ puts (b ∷ []) (gathered out.old at)) }
+    ensures err { OnErr result (HoldsBeginning (b ∷ []) (gathered out.old at) out.new) }
+{
+    if at < out.len() {
+        out[at] = b;
+        return Ok(at + 1);
     }
-
-    // What a write that fails leaves waits on.
-    fn send(&mut self) -> io::Result<()>
-        ensures kept { Keeps (out_contents W.contents self.old) (out_contents W.contents self.new) }
-        ensures none { OnOk result (out_waiting self.new ≡ []) }
-        ensures written { OnOk result (Appends (W.contents self.old.to) (W.contents self.new.to) (out_waiting self.old)) }
-        ensures begun { OnErr result (AppendsBeginning (W.contents self.old.to) (W.contents self.new.to) (out_waiting self.old)) }
-    {
-        while !self.waits.is_empty() {
-            let n = self.to.write(self.waits.as_slice())?;
-            if n == 0 {
-                return Err(io::Error::from(io::ErrorKind::WriteZero));
-            }
-            self.waits.remove_first(n);
-        }
-        Ok(())
+    flush(to, out, at)?;
+    if 0 < out.len() {
+        out[0] = b;
+        return Ok(1);
     }
-
-    // As many bytes as there is room for, and an array that is full is sent first. This and `write_parts` stand apart, so that the test for
-    // room is inlined.
-    #[cold]
-    #[inline(never)]
-    fn write_some(&mut self, s: &[u8]) -> io::Result<usize>
-        ensures bound { WritesAtMost result s.now }
-        ensures bytes { WriteAppends (out_contents W.contents self.old) (out_contents W.contents self.new) result s.now }
-    {
-        if self.waits.room() == 0 {
-            self.send()?;
-        }
-        Ok(self.waits.put(s))
-    }
-
-    // The loop of `text`, which is made over this block's methods and so cannot be called in it.
-    #[cold]
-    #[inline(never)]
-    fn write_parts(&mut self, s: &[u8]) -> io::Result<()>
-        ensures { OnOk result (Appends (out_contents W.contents self.old) (out_contents W.contents self.new) s.now) }
-    {
-        let mut rest = s;
-        while !rest.is_empty() {
-            let n = self.write_some(rest)?;
-            if n == 0 {
-                return Err(io::Error::from(io::ErrorKind::WriteZero));
-            }
-            rest = &rest[n..];
-        }
-        Ok(())
-    }
+    Ok(0)
 }
 
-impl<W: Write, const N: usize> Write for Out<W, N> {
-    ghost contents = { out_contents W.contents };
-
-    #[inline(always)]
-    fn write(&mut self, s: &[u8]) -> io::Result<usize> {
-        if s.len() <= self.waits.room() {
-            return Ok(self.waits.put(s));
-        }
-        self.write_some(s)
+pub fn text<W: Write>(to: &mut W, out: &mut [u8], at: usize, s: &[u8]) -> io::Result<usize>
+    ensures ok { IfOk result (λ n. gathered out.new n ≡ puts s.now (gathered out.old at)) }
+    ensures err { OnErr result (HoldsBeginning s.now (gathered out.old at) out.new) }
+{
+    let mut n = at;
+    for i in 0..s.len() {
+        n = byte(to, out, n, s[i])?;
     }
+    Ok(n)
+}
 
-    fn flush(&mut self) -> io::Result<()>
-        ensures bytes { Keeps (out_contents W.contents self.old) (out_contents W.contents self.new) }
-        ensures none { OnOk result (out_waiting self.new ≡ []) }
-        ensures written { OnOk result (Appends (W.contents self.old.to) (W.contents self.new.to) (out_waiting self.old)) }
-        ensures begun { OnErr result (AppendsBeginning (W.contents self.old.to) (W.contents self.new.to) (out_waiting self.old)) }
-    {
-        self.send()?;
-        self.to.flush()
-    }
+// In decimal.
+fn number<W: Write>(to: &mut W, out: &mut [u8], at: usize, n: u64) -> io::Result<usize>
+    ensures ok { IfOk result (λ k. gathered out.new k ≡ puts (decimal_of n) (gathered out.old at)) }
+    ensures err { OnErr result (HoldsBeginning (decimal_of n) (gathered out.old at) out.new) }
+{
+    let mut digits = [0u8; 20];
+    let from = crate::digits::decimal(n, &mut digits);
+    text(to, out, at, &digits[from..])
+}
 
-    #[inline(always)]
-    fn write_all(&mut self, s: &[u8]) -> io::Result<()> {
-        if s.len() <= self.waits.room() {
-            self.waits.put(s);
-            return Ok(());
-        }
-        self.write_parts(s)
+pub fn number_u32<W: Write>(to: &mut W, out: &mut [u8], at: usize, n: u32) -> io::Result<usize>
+    ensures ok { IfOk result (λ k. gathered out.new k ≡ puts (decimal_of n) (gathered out.old at)) }
+    ensures err { OnErr result (HoldsBeginning (decimal_of n) (gathered out.old at) out.new) }
+{
+    number(to, out, at, n as u64)
+}
+
+fn signed<W: Write>(to: &mut W, out: &mut [u8], at: usize, z: i64) -> io::Result<usize>
+    ensures ok { IfOk result (λ n. gathered out.new n ≡ puts (signed_of z) (gathered out.old at)) }
+    ensures err { OnErr result (HoldsBeginning (signed_of z) (gathered out.old at) out.new) }
+{
+    let size = crate::magnitude(z);
+    if z < 0 {
+        let n = byte(to, out, at, b'-')?;
+        return number(to, out, n, size);
     }
+    number(to, out, at, size)
+}
+
+// Two hexadecimal digits.
+fn pair<W: Write>(to: &mut W, out: &mut [u8], at: usize, b: u8) -> io::Result<usize>
+    ensures ok { IfOk result (λ n. gathered out.new n ≡ puts (hex_of (b ∷ [])) (gathered out.old at)) }
+    ensures err { OnErr result (HoldsBeginning (hex_of (b ∷ [])) (gathered out.old at) out.new) }
+{
+    let n = byte(to, out, at, crate::digit(b / 16))?;
+    byte(to, out, n, crate::digit(b % 16))
+}
+
+// FIELDS OF A LINE: a space, and a number
+
+pub fn field<W: Write>(to: &mut W, out: &mut [u8], at: usize, n: u64) -> io::Result<usize>
+    ensures ok { IfOk result (λ k. gathered out.new k ≡ puts (field_of n) (gathered out.old at)) }
+    ensures err { OnErr result (HoldsBeginning (field_of n) (gathered out.old at) out.new) }
+{
+    let after = byte(to, out, at, b' ')?;
+    number(to, out, after, n)
+}
+
+// Narrow numbers have functions of their own, since a parameter is known to fit its type.
+pub fn field_u8<W: Write>(to: &mut W, out: &mut [u8], at: usize, n: u8) -> io::Result<usize>
+    ensures ok { IfOk result (λ k. gathered out.new k ≡ puts (field_of n) (gathered out.old at)) }
+    ensures err { OnErr result (HoldsBeginning (field_of n) (gathered out.old at) out.new) }
+{
+    field(to, out, at, n as u64)
+}
+
+pub fn field_u32<W: Write>(to: &mut W, out: &mut [u8], at: usize, n: u32) -> io::Result<usize>
+    ensures ok { IfOk result (λ k. gathered out.new k ≡ puts (field_of n) (gathered out.old at)) }
+    ensures err { OnErr result (HoldsBeginning (field_of n) (gathered out.old at) out.new) }
+{
+    field(to, out, at, n as u64)
+}
+
+pub fn field_i64<W: Write>(to: &mut W, out: &mut [u8], at: usize, z: i64) -> io::Result<usize>
+    ensures ok { IfOk result (λ n. gathered out.new n ≡ puts (0x20 ∷ signed_of z) (gathered out.old at)) }
+    ensures err { OnErr result (HoldsBeginning (0x20 ∷ signed_of z) (gathered out.old at) out.new) }
+{
+    let after = byte(to, out, at, b' ')?;
+    signed(to, out, after, z)
+}
+
+// The end of a line that is refused.
+pub fn refused<W: Write>(
+    to: &mut W,
+    out: &mut [u8],
+    at: usize,
+    numbers: Numbers,
+) -> io::Result<usize>
+    ensures ok { IfOk result (λ n. gathered out.new n ≡ puts (refused_of numbers) (gathered out.old at)) }
+    ensures err { OnErr result (HoldsBeginning (refused_of numbers) (gathered out.old at) out.new) }
+{
+    let n = text(to, out, at, b" refused")?;
+    let n = field_u8(to, out, n, numbers.number)?;
+    let n = field_u32(to, out, n, numbers.page)?;
+    let n = field(to, out, n, numbers.cell as u64)?;
+    let n = field(to, out, n, numbers.column as u64)?;
+    let n = field_u8(to, out, n, numbers.mark)?;
+    text(to, out, n, b"\n")
+}
+
+// VALUES: a space and the sort, as the caller spells them, and what it is
+
+pub fn integer<W: Write>(
+    to: &mut W,
+    out: &mut [u8],
+    at: usize,
+    sort: &[u8],
+    z: i64,
+) -> io::Result<usize>
+    ensures ok { IfOk result (λ n. gathered out.new n ≡ puts (sort.now ++ signed_of z) (gathered out.old at)) }
+    ensures err { OnErr result (HoldsBeginning (sort.now ++ signed_of z) (gathered out.old at) out.new) }
+{
+    let n = text(to, out, at, sort)?;
+    signed(to, out, n, z)
+}
+
+// By its bits, which tell one NaN from another, and -0.0 from 0.
+pub fn real<W: Write>(
+    to: &mut W,
+    out: &mut [u8],
+    at: usize,
+    sort: &[u8],
+    bits: u64,
+) -> io::Result<usize>
+    ensures ok { IfOk result (λ n. gathered out.new n ≡ puts (sort.now ++ bits_of bits) (gathered out.old at)) }
+    ensures err { OnErr result (HoldsBeginning (sort.now ++ bits_of bits) (gathered out.old at) out.new) }
+{
+    let n = text(to, out, at, sort)?;
+    let mut spelt = [0u8; 16];
+    crate::digits::hexadecimal(bits, &mut spelt);
+    text(to, out, n, &spelt)
+}
+
+// The bytes of a text or a blob.
+pub fn long<W: Write>(
+    to: &mut W,
+    out: &mut [u8],
+    at: usize,
+    sort: &[u8],
+    s: &[u8],
+) -> io::Result<usize>
+    ensures ok { IfOk result (λ n. gathered out.new n ≡ puts (sort.now ++ hex_of s.now) (gathered out.old at)) }
+    ensures err { OnErr result (HoldsBeginning (sort.now ++ hex_of s.now) (gathered out.old at) out.new) }
+{
+    let mut n = text(to, out, at, sort)?;
+    for i in 0..s.len() {
+        n = pair(to, out, n, s[i])?;
+    }
+    Ok(n)
 }

@@ -22,7 +22,7 @@ pub fn fetch<R: Read>(from: &mut R, db: &mut [u8]) -> io::Result<Next> {
     if got < 4 {
         return Ok(Next::Cut);
     }
-    let length = u32::from_be_bytes(head);
+    let length = fields::be_u32(&head);
     if !take(from, db, length as usize)? {
         return Ok(Next::Cut);
     }
@@ -40,6 +40,6 @@ fn take<R: Read>(from: &mut R, db: &mut [u8], n: usize) -> io::Result<bool> {
         }
         left -= got;
     }
-    let got = read_full(from, &mut db[..left])?;
+    let got = read_full(from, &mut db[0..left])?;
     Ok(got == left)
 }

@@ -1,5 +1,6 @@
 // How a refusal is told: with our numbers, or by the word alone, as it stands in the oracle's answers, which have none.
 use answers::Numbers;
+use print::out;
 use std::io;
 use std::io::Write;
 
@@ -9,20 +10,34 @@ pub enum Telling {
     Word,
 }
 
-impl Telling {
-    // The end of a line that is refused.
-    pub fn refused<W: Write>(self, to: &mut W, numbers: Numbers) -> io::Result<()> {
-        match self {
-            Telling::Numbers => print::refused(to, numbers),
-            Telling::Word => writeln!(to, " refused"),
-        }
+// The end of a line that is refused.
+pub fn refused<W: Write>(
+    to: &mut W,
+    out: &mut [u8],
+    at: usize,
+    telling: Telling,
+    numbers: Numbers,
+) -> io::Result<usize> {
+    match telling {
+        Telling::Numbers => out::refused(to, out, at, numbers),
+        Telling::Word => out::text(to, out, at, b" refused\n"),
     }
+}
 
-    // The same for a header, of which only the number is told.
-    pub fn header_refused<W: Write>(self, to: &mut W, number: u8) -> io::Result<()> {
-        match self {
-            Telling::Numbers => writeln!(to, "header refused {number}"),
-            Telling::Word => writeln!(to, "header refused"),
+// The same for a header, of which only the number is told.
+pub fn header_refused<W: Write>(
+    to: &mut W,
+    out: &mut [u8],
+    at: usize,
+    telling: Telling,
+    number: u8,
+) -> io::Result<usize> {
+    let n = out::text(to, out, at, b"header refused")?;
+    match telling {
+        Telling::Numbers => {
+            let n = out::field_u8(to, out, n, number)?;
+            out::text(to, out, n, b"\n")
         }
+        Telling::Word => out::text(to, out, n, b"\n"),
     }
 }

@@ -1,62 +1,83 @@
 // A row in words, as the file reading shows it: its row number and its values, or the refusal. The guarded reading shows it in
-// the same words, and the old one its values. Where a write fails, the writer was given what comes before it.
+// the same words, and the old one its values. Where a write fails, the buffer holds what was put before it.
 #![tactic(auto)]
 
-ghost use Rattle.std.specs.Prelude.{OnErr, OnOk};
-ghost use Rattle.std.specs.Io.KnownBytes.{Appends};
-ghost use Rattle.print.specs.Begun.{AppendsBeginning};
+ghost use Rattle.std.specs.Prelude.{◌≡◌, IfOk, OnErr};
+ghost use Rattle.print.specs.Gathered.{HoldsBeginning, gathered, puts};
 ghost use Rattle.texts.specs.Row.{value_text, values_text, row_text};
 
 use answers::Refusal;
 use columns::Cursor;
 use parts::whole_part;
-use print::{integer, long, real, refused, signed_field, text};
+use print::out::{field_i64, integer, long, real, refused, text};
 use row::FoundCell;
 use std::io;
 use std::io::Write;
 use values::file::Value;
 
 // The rest of a cell's line: the row number and the values, or the refusal.
-pub fn row<W: Write>(to: &mut W, db: &[u8], answer: Result<FoundCell, Refusal>) -> io::Result<()>
-    ensures written { OnOk result (Appends (W.contents to.old) (W.contents to.new) (row_text db.now answer)) }
-    ensures begun { OnErr result (AppendsBeginning (W.contents to.old) (W.contents to.new) (row_text db.now answer)) }
+pub fn row<W: Write>(
+    to: &mut W,
+    db: &[u8],
+    out: &mut [u8],
+    at: usize,
+    answer: Result<FoundCell, Refusal>,
+) -> io::Result<usize>
+    ensures ok { IfOk result (λ n. gathered out.new n ≡ puts (row_text db.now answer) (gathered out.old at)) }
+    ensures err { OnErr result (HoldsBeginning (row_text db.now answer) (gathered out.old at) out.new) }
 {
     match answer {
-        Err(refusal) => refused(to, answers::numbers_of(refusal)),
+        Err(refusal) => refused(to, out, at, answers::numbers_of(refusal)),
         Ok(found) => {
-            signed_field(to, fields::signed_of(found.cell.row.value))?;
-            values(to, db, found.cursor, found.cell.columns)?;
-            text(to, b"\n")
+            let n = field_i64(to, out, at, fields::signed_of(found.cell.row.value))?;
+            let n = values(to, db, out, n, found.cursor, found.cell.columns)?;
+            text(to, out, n, b"\n")
         }
     }
 }
 
 // At most as many values as are counted, so that the loop is seen to end.
-fn values<W: Write>(to: &mut W, db: &[u8], first: Cursor, count: usize) -> io::Result<()>
-    ensures written { OnOk result (Appends (W.contents to.old) (W.contents to.new) (values_text count first db.now)) }
-    ensures begun { OnErr result (AppendsBeginning (W.contents to.old) (W.contents to.new) (values_text count first db.now)) }
+fn values<W: Write>(
+    to: &mut W,
+    db: &[u8],
+    out: &mut [u8],
+    at: usize,
+    first: Cursor,
+    count: usize,
+) -> io::Result<usize>
+    ensures ok { IfOk result (λ n. gathered out.new n ≡ puts (values_text count first db.now) (gathered out.old at)) }
+    ensures err { OnErr result (HoldsBeginning (values_text count first db.now) (gathered out.old at) out.new) }
 {
+    let mut n = at;
     let mut here = first;
-    for _ in 0..count {
+    let mut left = count;
+    while 0 < left {
         let Some(column) = row_values::file::next(db, here) else {
-            return Ok(());
+            return Ok(n);
         };
-        value(to, db, column.value)?;
+        n = value(to, db, out, n, column.value)?;
         here = column.next;
+        left -= 1;
     }
-    Ok(())
+    Ok(n)
 }
 
 // One value, behind a space.
-pub fn value<W: Write>(to: &mut W, db: &[u8], v: Value) -> io::Result<()>
-    ensures written { OnOk result (Appends (W.contents to.old) (W.contents to.new) (value_text db.now v)) }
-    ensures begun { OnErr result (AppendsBeginning (W.contents to.old) (W.contents to.new) (value_text db.now v)) }
+pub fn value<W: Write>(
+    to: &mut W,
+    db: &[u8],
+    out: &mut [u8],
+    at: usize,
+    v: Value,
+) -> io::Result<usize>
+    ensures ok { IfOk result (λ n. gathered out.new n ≡ puts (value_text db.now v) (gathered out.old at)) }
+    ensures err { OnErr result (HoldsBeginning (value_text db.now v) (gathered out.old at) out.new) }
 {
     match v {
-        Value::Null => text(to, b" null"),
-        Value::Integer(z) => integer(to, b" i:", z),
-        Value::Real { bits, .. } => real(to, b" r:", bits),
-        Value::Blob { at, len } => long(to, b" b:", whole_part(db, at, len)),
-        Value::Text { at, len } => long(to, b" t:", whole_part(db, at, len)),
+        Value::Null => text(to, out, at, b" null"),
+        Value::Integer(z) => integer(to, out, at, b" i:", z),
+        Value::Real { bits, .. } => real(to, out, at, b" r:", bits),
+        Value::Blob { at: from, len } => long(to, out, at, b" b:", whole_part(db, from, len)),
+        Value::Text { at: from, len } => long(to, out, at, b" t:", whole_part(db, from, len)),
     }
 }

@@ -1,39 +1,37 @@
--- A chunk's digits are behind those of the chunks before it.
-use Rattle.std.proofs.Common.{◌≡◌, [], ◌++◌, rules, sym, ap, ◌∙◌, subst, append_assoc, append-nil}
-use Rattle.std.proofs.lemmas.List.{nil_from_length}
-use Rattle.std.proofs.KnownBytes.{Appends-nil, Appends-trans}
+-- A chunk is written behind those before it.
+use Rattle.std.proofs.Common.{ℕ, List, ◌+◌, ◌-◌, arith, length, sym, subst, take, drop}
 use Rattle.std.specs.Io.KnownBytes.{Appends}
 use Rattle.print.specs.Begun.{AppendsBeginning}
 use Rattle.print.specs.Hex.{hex_of}
-use Rattle.print.proofs.Hexes.{hex_of-append, hex_parts}
-use Rattle.print.proofs.Written.{failed, given_before, given_some}
+use Rattle.print.proofs.Gathering.{failed, hex_rest, hex_to}
+use Rattle.std.proofs.KnownBytes.{Appends-trans}
+use Rattle.print.proofs.Written.{given_before, given_hex, given_on, written_on}
 use Rattle.print.proofs.hex.Goals as goal
 
-pub loop-part-init : goal.loop-part-init
-loop-part-init g c = record { chunk = search rules; before = []; parted = search rules; written = Appends-nil _ }
-
-pub loop-part-preserved : goal.loop-part-preserved
-loop-part-preserved g c =
-    let l = c.loop-part.invariant in
-    let part = c.in-Some.part.now in
-    let steps = c.in-Some.ensures.steps in
+pub loop-at-preserved : goal.loop-at-preserved
+loop-at-preserved g c =
+    let l = c.loop-at in
     record {
-      chunk = steps.0 ∙ l.chunk;
-      before = l.before ++ part;
-      parted = l.parted ∙ ap (λ s. l.before ++ s) steps.1.0 ∙ sym (append_assoc l.before part _);
-      written = subst (Appends _ _) (sym (hex_of-append l.before part)) (Appends-trans _ _ _ _ _ l.written c.in_ok-chunk.ensures.written);
+      within = omega arith;
+      written = subst (λ (s : List ℕ). Appends (g.W.Write.contents c.args.to.now) (g.W.Write.contents c.chunk.new.to) s) (hex_to c.args.s.now l.at (l.at + 32 - l.at) (l.at + 32) (omega arith)) (Appends-trans _ _ _ _ _ l.invariant.written c.in_ok-chunk.ensures.written);
+    }
+
+pub returns : goal.returns
+returns g c =
+    let l = c.loop-at in
+    let s = c.args.s.now in
+    let rest = take (length s - l.at) (drop l.at s) in
+    let e = sym (hex_rest s l.at l.invariant.within) in
+    record {
+      written = rw e (written_on _ _ _ _ (hex_of (take l.at s)) (hex_of rest) l.invariant.written c.chunk-2.ensures.written);
+      begun = rw e (given_on _ _ _ _ (hex_of (take l.at s)) (hex_of rest) l.invariant.written c.chunk-2.ensures.begun);
     }
 
 pub returns-in_err-chunk-clause-begun : goal.returns-in_err-chunk-clause-begun
 returns-in_err-chunk-clause-begun g c =
-    let l = c.loop-part.invariant in
-    let part = c.in-Some.part.now in
-    let e = hex_parts c.args.s.now l.before _ part _ l.parted c.in-Some.ensures.steps.1.0 in
-    failed _ _ (subst (AppendsBeginning _ _) e (given_before _ _ _ (hex_of l.before) _ l.written (given_some _ _ (hex_of part) _ c.in_err-chunk.ensures.begun)))
-
-pub returns-clause-written : goal.returns-clause-written
-returns-clause-written g c =
-    let l = c.loop-part.invariant in
-    let none = nil_from_length _ c.in-None.ensures.steps.1.0 in
-    let all : l.before ≡ c.args.s.now = sym (l.parted ∙ ap (λ s. l.before ++ s) none ∙ append-nil l.before) in
-    subst (λ s. Appends (g.W.Write.contents c.args.to.now) (g.W.Write.contents c.loop-part.to) (hex_of s)) all l.written
+    let l = c.loop-at in
+    let s = c.args.s.now in
+    let so_far = given_before _ _ _ (hex_of (take l.at s)) (hex_of (take (l.at + 32 - l.at) (drop l.at s))) l.invariant.written c.in_err-chunk.ensures.begun in
+    failed _ _
+    (given_hex _ _ s (l.at + 32)
+    (subst (λ (h : List ℕ). AppendsBeginning (g.W.Write.contents c.args.to.now) (g.W.Write.contents c.chunk.new.to) h) (hex_to s l.at (l.at + 32 - l.at) (l.at + 32) (omega arith)) so_far))

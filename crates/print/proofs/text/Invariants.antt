@@ -1,10 +1,13 @@
--- At every turn the bytes before the rest are written; each turn leaves less to write.
-use Rattle.std.proofs.Common.{◌≡◌, length}
-use Rattle.print.specs.Begun.{AppendsBeginning}
+-- At every turn the bytes before `at` are written; each turn leaves less to write.
+use Rattle.std.proofs.Common.{◌≤◌, ◌-◌, length, take}
+use Rattle.std.specs.Io.KnownBytes.{Appends}
 use Rattle.print.proofs.text.Given as goal
 
-abbrev pub invariant-loop-rest : goal.invariant-loop-rest
-invariant-loop-rest g l = (w : AppendsBeginning (g.W.Write.contents l.initial.to) (g.W.Write.contents l.to) l.s) × (w.rest ≡ l.rest)
+abbrev pub invariant-loop-at : goal.invariant-loop-at
+invariant-loop-at g l = record {
+  within : l.at ≤ length l.s;
+  written : Appends (g.W.Write.contents l.initial.to) (g.W.Write.contents l.to) (take l.at l.s);
+}
 
-abbrev pub decreases-loop-rest : goal.decreases-loop-rest
-decreases-loop-rest g l = length l.rest
+abbrev pub decreases-loop-at : goal.decreases-loop-at
+decreases-loop-at g l = length l.s - l.at

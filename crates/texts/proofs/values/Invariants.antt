@@ -1,10 +1,11 @@
--- At every turn the text of the values so far is written, and that of those to come is the rest.
-use Rattle.std.proofs.Common.{◌≡◌, ◌-◌}
-use Rattle.print.specs.Begun.{AppendsBeginning}
+-- At every turn, what is gathered so far and the text of the values to come are the whole.
+use Rattle.print.specs.Gathered.{gathered}
 use Rattle.texts.specs.Row.{values_text}
+use Rattle.texts.proofs.Along.{PutSoFar}
 use Rattle.texts.proofs.values.Given as goal
 
-abbrev pub invariant-loop : goal.invariant-loop
-invariant-loop g l =
-    (w : AppendsBeginning (g.W.Write.contents l.initial.to) (g.W.Write.contents l.to) (values_text l.count l.initial.here l.db))
-    × (w.rest ≡ values_text (l.count - l.counter) l.here l.db)
+abbrev pub invariant-loop-left : goal.invariant-loop-left
+invariant-loop-left g l = PutSoFar (values_text l.initial.left l.initial.here l.db) (values_text l.left l.here l.db) (gathered l.fn.out l.at) (gathered l.out l.n)
+
+abbrev pub decreases-loop-left : goal.decreases-loop-left
+decreases-loop-left g l = l.left

@@ -8,3 +8,6 @@ invariant-loop-at l = record {
   within : l.at ≤ 16;
   spelt : Spelt 16 l.n (16 - l.at) l.rest (drop l.at l.out);
 }
+
+abbrev pub decreases-loop-at : goal.decreases-loop-at
+decreases-loop-at l = l.at

@@ -1,6 +1,7 @@
 -- What is read is behind what was read before.
 use Rattle.std.proofs.Common.{◌≤◌, length}
-use Rattle.print.proofs.Written.{failed, read_on, read_stopped, read_within}
+use Rattle.print.proofs.Gathering.{failed}
+use Rattle.print.proofs.Written.{read_on, read_stopped, read_within}
 use Rattle.print.proofs.input.read_full.Goals as goal
 
 pub loop-done-preserved : goal.loop-done-preserved
