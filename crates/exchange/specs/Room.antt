@@ -12,5 +12,5 @@ use Rattle.exchange.specs.Run.{Truck, asks, answer}
 
 abbrev pub HalfCounts : Type 0
 HalfCounts = (t : Truck) (page : Page) (db : List ℕ) (ys : List Entry) (o : Open) → open_of page db ≡ Ok o
-    → (length ys / 2 < o.cells → answer (asks t page db) ys ≡ (on_page page TableTooShort))
+    → (length ys / 2 < o.cells → answer (asks t page db) ys ≡ on_page page TableTooShort)
     × (o.cells ≤ length ys / 2 → answer (asks t page db) ys ≡ page_of page o.cells db)
