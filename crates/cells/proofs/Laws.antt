@@ -22,8 +22,10 @@ use Rattle.answers.specs.declared.Fault.{Fault}
 use Rattle.answers.specs.declared.Fault.TheVariants as fa
 use Rattle.answers.specs.declared.Reason.TheVariants as re
 use Rattle.answers.specs.declared.Refusal.{Refusal}
+use Rattle.answers.specs.declared.Refusal.TheVariants.{InCell}
 use Rattle.answers.specs.Answer.{◌>>=◌}
-use Rattle.cell.specs.Cell.{Cell, told, cell_of}
+use Rattle.cell.specs.declared.Cell as dc
+use Rattle.cell.specs.Cell.{Cell, told, cell_of, answer_of}
 use Rattle.place.specs.declared.Page.{Page}
 use Rattle.place.specs.Place.{page_at}
 use Rattle.place.proofs.Laws.{page-length}
@@ -143,6 +145,16 @@ module _ (page : Page) (i : ℕ) (db : List ℕ) where
   located-page e = let s = steps e in rw (held s.o i db s.second).opened (open-page page db s.first)
 
 -- ANSWERS
+
+-- what the code makes of the cell at a pointer
+abbrev pub located_by : Open → ℕ → ℕ → Result dc.Cell Fault → Result dl.Located Refusal
+located_by o i p (Err fault) = Err (InCell o.page.number i fault)
+located_by o i p (Ok c) = Ok (record { pointer = p; cell = c })
+
+pub located-by : (o : Open) (i p : ℕ) (x : Result Cell Fault)
+    → located_answer (in_cell o.page i x >>= (λ c. Ok (record { opened = o; pointer = p; cell = c }))) ≡ located_by o i p (answer_of o.page.reading x)
+located-by o i p (Err fault) = refl
+located-by o i p (Ok c) = refl
 
 -- a located cell as the code has it
 abbrev pub told_of : Located → dl.Located

@@ -3,11 +3,13 @@ use Prim.Native.Nat.{ℕ, min, ◌+◌, ◌-◌, ◌≤◌}
 use mathlib.Core.Path.{◌≡◌, refl, sym, ◌∙◌, ap}
 use mathlib.Core.List.{List, [], ◌++◌, append-nil, append_assoc}
 use mathlib.Core.Bool.{Bool, true, false}
+use native.Mathlib.Nat.{le_of_eq}
 use native.Mathlib.Omega.{arith}
 use lib.Dec.{ltb}
-use lib.ListN.{length, take, drop, length-append, length-drop, take-append-drop}
-use lib.Seq.{length-take-le, take-length, take-append-le, take-append-add, take_at, drop_at, drop-drop}
+use lib.ListN.{length, take, drop, length-append, length-drop, take-append-drop, drop_of_length-le}
+use lib.Seq.{length-take-le, take-length, take-append-le, take-append-add, take-append_seam, take_at, drop_at, drop-drop}
 use borrow.Author.Tests.{ltb-true, ltb-false}
+use Rattle.laws.proofs.Parts.{tail}
 use Rattle.chain.specs.Copied.{laid_at}
 
 -- as much of two lists as m: of the first n, and the rest of the second
@@ -54,6 +56,24 @@ laid_on at m c rest b h =
     ∙ laid_both at (take n c) (take (m - n) rest) b h
     ∙ ap (λ x. laid_at (at + x) (take (m - n) rest) (laid_at at (take n c) b)) l
 
+-- a part to the end of the buffer, as it is lent and taken back
+pub laid-part : (at : ℕ) (q b : List ℕ) → at + length q ≤ length b
+    → let part = take (length b - at) (drop at b) in
+    take at b ++ (take (length q) q ++ drop (length q) part ++ drop (length b - at) (drop at b)) ≡ laid_at at q b
+laid-part at q b h =
+    let z : drop (length b - at) (drop at b) ≡ [] = drop_of_length-le (drop at b) (le_of_eq (length-drop at b)) in
+    rw (take-length q, tail b at, z, append-nil (q ++ drop (length q) (drop at b)), drop-drop (length q) at b)
+
 -- the buffer keeps its length
 pub laid-length : (at : ℕ) (q b : List ℕ) → at + length q ≤ length b → length (laid_at at q b) ≡ length b
 laid-length at q b h = rw (length-append, length-append, length-take-le at b (omega arith), length-drop) (omega arith)
+
+-- what q was laid into first begins with it
+pub through : (q rest : List ℕ) {after : List ℕ} {n : ℕ} → n ≡ length q → after ≡ take (length q) q ++ rest → take (n - 0) (drop 0 after) ≡ q
+through q rest {n = n} e f = let m : n - 0 ≡ length q = omega (arith, e) in rw (m, f, take-length q) (take-append_seam q rest)
+
+-- that part, where what is laid in it is known by another name
+pub laid_through : (at : ℕ) (q b : List ℕ) {s : List ℕ} → s ≡ q → at + length q ≤ length b
+    → let part = take (length b - at) (drop at b) in
+    take at b ++ (take (length s) s ++ drop (length s) part ++ drop (length b - at) (drop at b)) ≡ laid_at at q b
+laid_through at q b e h = rw e (laid-part at q b h)

@@ -23,7 +23,7 @@ use Rattle.cells.specs.Located.{part_in}
 use Rattle.cells.specs.Numbered.{numbers_in}
 use Rattle.chain.specs.Payload.{payload_of}
 use Rattle.links.specs.Whole.{Shaped, whole}
-use Rattle.chain.specs.Gathered.{Gathered, gathered_with, gathered_in}
+use Rattle.chain.specs.Gathered.{Gathered, gathered_with, gathered_in, payload_answer}
 use Rattle.chain.proofs.Payloads.{kept, chain, joined, payload-short, payload_cut, payload-unfit, payload-joined}
 use Rattle.chain.proofs.Payloads.{joined_length}
 use Rattle.std.specs.Prelude.{Err, Ok, Result}
@@ -35,6 +35,20 @@ shape-shaped db e =
     (rw k.1 (passed-usable db k.0), end-within file db e)
 
 -- PAYLOADS
+
+-- the code's answer is the definition's
+pub record Whole (x : Result (List ℕ) Fault) (n : ℕ) : Type 0 where
+  pub payload : List ℕ
+  pub is : x ≡ Ok payload
+  pub size : length payload ≡ n
+
+pub payload-answered : (x : Result (List ℕ) Fault) {n : ℕ} → payload_answer x ≡ Ok n → Whole x n
+payload-answered (Err fault) e = never cc
+payload-answered (Ok q) e = record { payload = q; is = refl; size = cc }
+
+pub payload-unanswered : (x : Result (List ℕ) Fault) {fault : Fault} → payload_answer x ≡ Err fault → x ≡ Err fault
+payload-unanswered (Err other) e = cc
+payload-unanswered (Ok q) e = never cc
 
 -- one that is gathered fits the buffer, and has the size that its cell says
 payload-length : (k : Kind) (shape : Shape) (room p : ℕ) (s db : List ℕ) → Shaped shape → {q : List ℕ}

@@ -41,3 +41,8 @@ along-slot (suc k) c db = go (step_of c db) refl (λ next. along-slot k next db)
         → slot_by (onward x (λ next. along k next db)) ≡ slot_of (suc k) c db
     go None e ih = sym (slot-done c db (suc k) e)
     go (Some step) e ih = ih step.next ∙ sym (slot_next c db e k)
+
+-- the first is the one at the cursor
+pub slot_first : (c : Cursor) (db : List ℕ) → slot_of 0 c db ≡ slot_by (step_of c db)
+unfolding along
+slot_first c db = sym (along-slot 0 c db)

@@ -8,7 +8,7 @@ use native.Mathlib.Omega.{arith}
 use lib.Arith.{digits_lt}
 use lib.Dec.{lit<}
 use lib.ListN.{length, take, drop, get_or, length-take, length-drop, drop_of_length-le}
-use lib.Seq.{length-take-le, drop-cons, get_or-drop}
+use lib.Seq.{length-take-le, drop-cons, take_all, take-length, get_or-drop}
 use Rattle.laws.proofs.Powers.{digits-within}
 use Rattle.fields.specs.Fields.{be, unsigned}
 
@@ -38,6 +38,10 @@ module _ (s : List ℕ) (w i v : ℕ) where
 
   pub whole : w ≤ i → spells v (take (w - i) (drop i s)) ≡ v
   whole h = let e : w - i ≡ 0 = omega arith in rw e (spells-nil v)
+
+-- a part that is shorter than the field is all of it
+pub ends-early : (s : List ℕ) (w : ℕ) → length s ≤ w → unsigned (length s) s ≡ unsigned w s
+ends-early s w h = rw (take-length s, take_all w s h)
 
 -- a field of which i bytes are read and give v
 module _ (s : List ℕ) (i v : ℕ) where

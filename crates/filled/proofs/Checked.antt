@@ -2,6 +2,7 @@
 use Prim.Native.Nat.{ℕ, ◌+◌, ◌-◌, ◌*◌, ◌≤◌, ◌<◌}
 use mathlib.Core.Path.{◌≡◌, refl, sym, ap}
 use mathlib.Core.Bool.{Bool, true, false}
+use mathlib.Core.Logic.{◌⊎◌, inl, inr}
 use mathlib.Core.List.{List}
 use native.Mathlib.Omega.{arith}
 use lib.Dec.{ltb}
@@ -69,3 +70,9 @@ module _ (places : ℕ) (first : Cursor) (db : List ℕ) (lent : List ℤ) (room
           let none : places - n ≡ 0 = omega arith in
           all-stored places first db lent room table here n h (rw none (run-full here db))
       go false e = all-stored places first db lent room table here n h (run-done (places - n) here db (none_left db here n k (ltb-false n columns e)))
+
+-- what is the smaller of two numbers is within both
+pub smaller : {A B : Type 0} {columns places most : ℕ} → (A → columns < places) → (B → places ≤ columns)
+    → ◌⊎◌ (A × (most ≡ columns)) (B × (most ≡ places)) → (most ≤ columns) × (most ≤ places)
+smaller f g (inl p) = omega (arith, p.1, f p.0)
+smaller f g (inr p) = omega (arith, p.1, g p.0)

@@ -3,20 +3,35 @@ use Prim.Native.Nat.{ℕ, zero, suc, ◌≤◌}
 use mathlib.Core.Path.{◌≡◌, refl, sym, ◌∙◌}
 use mathlib.Core.List.{List, [], ◌∷◌, ◌++◌}
 use mathlib.Core.Bool.{Bool, true, false}
+use native.Mathlib.Nat.{le_refl, le_of_lt}
 use native.Mathlib.Omega.{arith}
-use lib.ListN.{length}
+use lib.Dec.{eqb}
+use lib.ListN.{length, drop}
 use borrow.Author.Tests.{ltb-false}
+use Rattle.laws.specs.Pick.{pick}
 use Rattle.laws.proofs.Never.{never}
+use Rattle.fields.proofs.Laws.{Bytes, unsigned-below, bytes_drop}
 use Rattle.reading.specs.declared.Reading.{Reading}
 use Rattle.reading.specs.declared.Reading.TheVariants.{Old as old, File as file}
 use Rattle.answers.specs.declared.Flaw.{Flaw}
 use Rattle.answers.specs.Checks.{Check, check, first}
 use Rattle.header.specs.declared.Header.{Header}
 use Rattle.header.specs.declared.Sizes.{Sizes}
-use Rattle.header.specs.Header.{page_size_of, usable, both_checks, file_checks, checked_of, fields_in, header_by, header_of, sizes_in, sizes_by, sizes_of}
+use Rattle.header.specs.Header.{field_of, page_size_of, usable, both_checks, file_checks, checked_of, fields_in, header_by, header_of, sizes_in, sizes_by, sizes_of}
 use Rattle.std.specs.Prelude.{Err, Ok, Result, ⊤}
 
 -- SIZES
+
+pick-below : (b : Bool) {x y n : ℕ} → x ≤ n → y ≤ n → pick b x y ≤ n
+pick-below true h k = h
+pick-below false h k = k
+
+-- a field of two bytes is below 256 to the second
+pub page-size-below : (db : List ℕ) → Bytes db → page_size_of db ≤ 65536
+unfolding page_size_of field_of
+page-size-below db bytes =
+    pick-below (eqb (field_of 0 db) 1) (le_refl 65536)
+    (le_of_lt (unsigned-below 2 (drop 16 db) (bytes_drop 16 db bytes)))
 
 pub usable-below : (db : List ℕ) → usable db ≤ page_size_of db
 unfolding usable
@@ -72,6 +87,11 @@ pub passed-limit : (r : Reading) (db : List ℕ) → checked_of r db ≡ Ok tt �
 unfolding checked_of
 passed-limit old db h = ltb-false 1073741824 (length db) (passes (both_checks db) h 0)
 passed-limit file db h = ltb-false 1073741824 (length db) (passes (both_checks db ++ file_checks db) h 0)
+
+pub passed_length : (r : Reading) (db : List ℕ) → checked_of r db ≡ Ok tt → 100 ≤ length db
+unfolding checked_of
+passed_length old db h = ltb-false (length db) 100 (passes (both_checks db) h 2)
+passed_length file db h = ltb-false (length db) 100 (passes (both_checks db ++ file_checks db) h 2)
 
 pub passed-usable : (db : List ℕ) → checked_of file db ≡ Ok tt → 480 ≤ usable db
 unfolding checked_of

@@ -60,6 +60,17 @@ alike-pairs (x ∷ s) (y ∷ l) = rw (same-either y x, alike-pairs s l)
 pub begins : (s l : List ℕ) → starts_with eqb s l ≡ alike (take (length l) s) l
 begins s l = alike-pairs (take (length l) s) l
 
+-- what is too short is not alike
+pub short-unlike : (s l : List ℕ) → length s < length l → alike s l ≡ false
+short-unlike [] [] h = absurd (omega arith)
+short-unlike [] (y ∷ l) h = refl
+short-unlike (x ∷ s) [] h = absurd (omega arith)
+short-unlike (x ∷ s) (y ∷ l) h = rw (short-unlike s l (omega arith)) (and-false (eqb x y))
+  where
+    and-false : (b : Bool) → (b && false) ≡ false
+    and-false true = refl
+    and-false false = refl
+
 -- ONE OF A LIST
 
 -- as a `match` has it

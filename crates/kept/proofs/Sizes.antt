@@ -1,17 +1,27 @@
 -- How large the numbers of a payload that spills are.
-use Prim.Native.Nat.{ℕ, suc, ◌+◌, ◌-◌, ◌*◌, ◌/◌, ◌%◌, ◌≤◌, ◌<◌}
-use mathlib.Core.Path.{◌≡◌, refl, ap}
+use Prim.Native.Nat.{ℕ, zero, suc, ◌+◌, ◌-◌, ◌*◌, ◌/◌, ◌%◌, ◌≤◌, ◌<◌}
+use mathlib.Core.Path.{◌≡◌, refl, ap, ◌∙◌}
 use mathlib.Core.Bool.{Bool, true, false}
-use native.Mathlib.Nat.{add-mul, mod-lt, div-add-mod', lt-div-mul-add}
+use native.Mathlib.Nat.{add-mul, mod-lt, mod-le, mod-zero, mod-one, div-zero, div-lt_self, div-add-mod', lt-div-mul-add}
 use native.Mathlib.Omega.{arith}
 use lib.Dec.{leb, eqb}
-use borrow.Author.Tests.{eq-eqb, ne_eqb, eqb-true, eqb-false}
+use borrow.Author.Tests.{le-leb, lt-leb, eq-eqb, ne_eqb, eqb-true, eqb-false}
 use Rattle.laws.specs.Pick.{pick}
 use Rattle.kinds.specs.declared.Kind.{Kind}
 use Rattle.kinds.specs.Kind.{most_whole}
 use Rattle.kept.specs.Kept.{least_kept, even_kept, kept_of, links_of}
 
 -- WHAT STAYS
+
+-- K where it may stay, and M where it may not
+module _ (k : Kind) (u p : ℕ) where
+  pub kept-even : even_kept u p ≤ most_whole k u → kept_of k u p ≡ even_kept u p
+  unfolding kept_of
+  kept-even h = ap (λ b. pick b (even_kept u p) (least_kept u)) (le-leb (even_kept u p) (most_whole k u) h)
+
+  pub kept-least : most_whole k u < even_kept u p → kept_of k u p ≡ least_kept u
+  unfolding kept_of
+  kept-least h = ap (λ b. pick b (even_kept u p) (least_kept u)) (lt-leb (even_kept u p) (most_whole k u) h)
 
 pub least-below : (u : ℕ) → least_kept u ≤ u
 least-below u = omega arith
@@ -30,6 +40,15 @@ kept-below k u p h = go (leb (even_kept u p) (most_whole k u))
     go false = omega (arith, least-below u)
 
 -- THE PAGES OF A CHAIN
+
+-- where something is over, less pages are filled than there are bytes, of whatever width
+pub fewer-filled : (n w : ℕ) → (n % w ≡ 0 → ⊥) → n / w < n
+fewer-filled n zero h = let some : n ≡ 0 → ⊥ = λ z. h (mod-zero n ∙ z) in rw (div-zero n) (omega (arith, some))
+fewer-filled n (suc zero) h = absurd (h (mod-one n))
+fewer-filled n (suc (suc w)) h =
+    let l = mod-le n (suc (suc w)) in
+    let some : 0 < n = omega (arith, h, l) in
+    div-lt_self some (omega arith)
 
 module _ (u n : ℕ) where
   pub links-even : n % (u - 4) ≡ 0 → links_of u n ≡ n / (u - 4)

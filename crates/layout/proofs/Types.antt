@@ -49,6 +49,15 @@ module _ (k : ℕ) (t : List ℕ) (at : ℕ) (h : 1 ≤ k) (l : at < length t) w
       let e = one_byte (drop at t) k h (rw length-drop (omega arith)) (rw (get_or-drop at t 0 0, add-zero) b) in
       types-at k t at (rw (get_or-drop at t 0 0, add-zero) at e)
 
+-- the two bounds of usual types
+pub barred-low : (g : Bool) → pick g 9 10 ≤ 10
+barred-low true = omega arith
+barred-low false = omega arith
+
+pub least-high : (g : Bool) → 12 ≤ pick g 14 12
+least-high true = omega arith
+least-high false = omega arith
+
 -- the types up to `at` are gone along, of one byte each, and leave so many of the bytes for the values of the rest
 abbrev pub Gone : Bool → ℕ → List ℕ → ℕ → ℕ → Type 0
 Gone g room t at left =
@@ -56,6 +65,9 @@ Gone g room t at left =
     → (walk at left (types_of k (drop at t)) ≡ walk 0 room (types_of k t)) × (g ≡ true → Clean (types_of k (drop at t)) → Clean (types_of k t))
 
 module _ (g : Bool) (room : ℕ) (t : List ℕ) where
+  pub gone-first : Gone g room t 0 room
+  gone-first k h = (refl, λ e c. c)
+
   module _ (at left : ℕ) where
     pub gone-on : (w : ℕ) → at < length t → Usual (get_or t at 0) (pick g 9 10) (pick g 14 12) w → w ≤ left → Gone g room t at left
         → Gone g room t (at + 1) (left - w)

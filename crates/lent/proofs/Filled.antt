@@ -1,6 +1,6 @@
 -- Laws of a table that is filled entry by entry, for the walks. A store to the first place behind the entries that are there
 -- lengthens them by one and takes one place off the rest (`filled_next`); the table's length stays (`filled-length`). So it is of a
--- table that is filled from a place on (`from-0`, `from_next`), and one that is filled from the start of a share on, with
+-- table that is filled from a place on (`from-0`, `from_next`, `from-length`), and one that is filled from the start of a share on, with
 -- no more entries than there is room, is one of which that share is filled (`from-share`).
 use mathlib.Core.Path.{◌≡◌, refl, sym, ◌∙◌, ap, subst}
 use Prim.Native.Nat.{ℕ, zero, suc, ◌+◌, ◌-◌, ◌<◌, ◌≤◌}
@@ -79,6 +79,11 @@ module _ (from : ℕ) (opening : Result Open Refusal) (db : List ℕ) where
         ap (λ (k : ℕ). set (filled_from from opening db n ys) (k + n) (entry_for opening db n)) (sym (front_length (omega (arith, l))))
         ∙ set-behind (take from ys) (filled opening db n (drop from ys)) n (entry_for opening db n)
         ∙ ap (λ (zs : List Entry). take from ys ++ zs) (filled_next opening db n (drop from ys) (omega (arith, l, length-drop from ys)))
+
+    pub from-length : from + n ≤ length ys → length (filled_from from opening db n ys) ≡ length ys
+    from-length l =
+        length-append (take from ys) (filled opening db n (drop from ys))
+        ∙ omega (arith, l, front_length l, length-drop from ys, filled-length opening db n (drop from ys) (omega (arith, l, length-drop from ys)))
 
 -- a part of a table behind its first n places, and what is behind that part
 rest-whole : (n room : ℕ) (ys : List Entry) → n ≤ room → drop n (take room ys) ++ drop room ys ≡ drop n ys

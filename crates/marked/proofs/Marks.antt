@@ -23,6 +23,11 @@ use Rattle.spilled.specs.Lent.{found_from}
 use Rattle.std.specs.Prelude.{Err, Ok, Result}
 
 module _ (i : ℕ) where
+  -- as the file reading refuses it
+  pub marked_refused : (x : Result Spilled Refusal) {refusal : Refusal} → gathered_by x ≡ Err refusal → marked_by i x ≡ refusal
+  marked_refused (Err other) e = cc
+  marked_refused (Ok c) e = never cc
+
   -- the buffer begins with its payload
   pub marked-shown : (after b : List ℕ) (x : Result Spilled Refusal) {f : FoundCell} {source : Source} → gathered_by x ≡ found_from f source
       → ((c : Spilled) → x ≡ Ok c → Got c after b)

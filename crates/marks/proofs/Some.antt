@@ -2,11 +2,17 @@
 use Prim.Native.Nat.{ℕ}
 use mathlib.Core.Path.{◌≡◌, refl, sym, ap, ◌∙◌}
 use mathlib.Core.Bool.{Bool, true, false, ◌||◌}
+use mathlib.Core.Logic.{◌⊎◌, inl, inr}
 use Rattle.varint.specs.declared.Number.{Number}
 use Rattle.record.specs.Types.{Types, column}
 use Rattle.marks.specs.Marks.{some, long_type, stored_one, empty_value, long_varint, lowest_by, lowest}
 use Rattle.answers.specs.declared.Mark.{Mark}
 use Rattle.std.specs.Prelude.{Option}
+
+-- two ways to one answer: the first test held, or it did not and the second told
+pub either : {A B : Type 0} (x y r : Bool) → ◌⊎◌ (A × (r ≡ x)) (B × (r ≡ y)) → (A → x ≡ true) → (B → x ≡ false) → r ≡ (x || y)
+either x y r (inl p) held failed = p.1 ∙ rw (held p.0)
+either x y r (inr p) held failed = p.1 ∙ rw (failed p.0)
 
 pub or_assoc : (a b c : Bool) → ((a || b) || c) ≡ (a || (b || c))
 or_assoc true b c = refl

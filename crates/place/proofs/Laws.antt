@@ -1,8 +1,9 @@
 -- What callers cite of pages: that one which is there lies in the bytes, and how long it is.
-use Prim.Native.Nat.{ℕ, suc, ◌+◌, ◌-◌, ◌*◌, ◌≤◌}
+use Prim.Native.Nat.{ℕ, suc, ◌+◌, ◌-◌, ◌*◌, ◌^◌, ◌≤◌, ◌<◌}
 use mathlib.Core.Path.{◌≡◌, refl, sym}
 use mathlib.Core.List.{List}
 use mathlib.Core.Bool.{Bool, true, false}
+use native.Mathlib.Nat.{add-mul, mul-le-mul_right}
 use native.Mathlib.Omega.{arith}
 use lib.Dec.{ltb, eqb}
 use lib.ListN.{length, drop, length-drop}
@@ -73,6 +74,12 @@ old-place n bytes s t {at} {from} same e = rw (sym same) (go (eqb n 0) (behind_l
     go true d h = never cc
     go false true h = never cc
     go false false h = h
+
+-- an index and a size of 32 bits each
+pub product-fits : {index size : ℕ} → index < 2 ^ 32 → size < 2 ^ 32 → index * size + size < 2 ^ 64
+product-fits {index} {size} h k =
+    let l : suc index * size ≤ 4294967296 * size = mul-le-mul_right size (omega arith) in
+    omega (arith, add-mul index 1 size)
 
 -- the page of a place is as long as its size
 pub page-length : (at size : ℕ) (db : List ℕ) → at + size ≤ length db → length (page_at at size db) ≡ size

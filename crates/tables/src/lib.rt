@@ -2,6 +2,8 @@
 // (specs/Tables.antt).
 #![tactic(auto)]
 
+ghost use Rattle.std.specs.Prelude.{◌≡◌};
+
 // 2.1 "Record Format": the widths of serial types 0 to 9.
 pub const WIDTHS: [u8; 10] = [0, 1, 2, 3, 4, 6, 8, 8, 0, 0];
 
@@ -34,3 +36,10 @@ pub const FIELD_AT: [u8; 21] = [
 pub const FIELD_WIDTH: [u8; 21] = [
     2, 1, 1, 1, 1, 1, 1, 4, 4, 4, 4, 4, 4, 4, 4, 4, 4, 4, 4, 4, 4,
 ];
+
+// An entry of a table, as a size. It has a function of its own, since a parameter is known to fit its type.
+pub fn wide(entry: u8) -> usize
+    ensures { result ≡ entry }
+{
+    usize::from(entry)
+}

@@ -1,5 +1,5 @@
 -- Words laid in a place: in one that has room, and in one that is part of a table.
-use Prim.Native.Nat.{ℕ, ◌+◌, ◌-◌, ◌≤◌}
+use Prim.Native.Nat.{ℕ, ◌+◌, ◌-◌, ◌≤◌, ◌<◌}
 use mathlib.Core.Path.{◌≡◌, sym, ◌∙◌}
 use mathlib.Core.List.{List, [], ◌++◌, append-nil, append_assoc}
 use native.Mathlib.Nat.{le_of_eq, zero-add}
@@ -7,10 +7,15 @@ use native.Mathlib.Omega.{arith}
 use lib.IntN.{ℤ}
 use lib.ListN.{length, take, drop, length-drop, drop_of_length-le}
 use lib.Seq.{sets, sets-eq, length-take-le, drop-drop}
-use borrow.Author.Tests.{le-ltb}
+use borrow.Author.Tests.{lt-ltb, le-ltb}
 use Rattle.words.specs.Laid.{laid_in}
 
 module _ (place words : List ℤ) where
+  -- one that has no room for all of them
+  pub laid-short : length place < length words → laid_in place words ≡ place
+  unfolding laid_in
+  laid-short h = rw (lt-ltb (length place) (length words) h)
+
   pub laid : length words ≤ length place → laid_in place words ≡ sets place 0 words
   unfolding laid_in
   laid h = rw (le-ltb (length place) (length words) h)
