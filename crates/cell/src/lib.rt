@@ -77,9 +77,13 @@ pub fn numbers_of(s: &[u8], reading: Reading, kind: Kind) -> Result<Numbers, Fau
         return Err(Fault::CellCut);
     }
     let limit = limit_of(reading);
-    let size = number_in(&s[own..], kind.has_size(), limit, NONE).or(Err(Fault::CellCut))?;
+    let Ok(size) = number_in(&s[own..], kind.has_size(), limit, NONE) else {
+        return Err(Fault::CellCut);
+    };
     let at = own + size.length;
-    let key = number_in(&s[at..], kind.has_row(), limit, NONE).or(Err(Fault::CellCut))?;
+    let Ok(key) = number_in(&s[at..], kind.has_row(), limit, NONE) else {
+        return Err(Fault::CellCut);
+    };
     Ok(Numbers {
         child: child_of(s, kind),
         size,

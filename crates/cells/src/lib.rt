@@ -9,7 +9,7 @@ ghost use Rattle.page.specs.Head.{pointers_end};
 ghost use Rattle.cell.specs.Cell.{answer_of};
 ghost use Rattle.cells.specs.Pointers.{pointer_at, outside, cell_at, Fitting};
 ghost use Rattle.cells.specs.Located.{row_number, located_from, located_in, located_answer, part_in};
-ghost use Rattle.cells.specs.Numbered.{numbers_at, numbers_from, numbers_in};
+ghost use Rattle.cells.specs.Numbered.{numbers_from, numbers_in};
 
 use answers::{Fault, Reason, Refusal};
 use cell::{Cell, Numbers};
@@ -101,20 +101,8 @@ pub fn part_in(db: &[u8], opened: Open, i: usize) -> &[u8]
         .unwrap_or(&[])
 }
 
-// The numbers of the cell that a pointer names.
-#[tactic(auto, unfolding(crate::specs::Numbered::numbers_at))]
-fn numbers_at(page: &[u8], opened: Open, pointer: u32) -> Result<Numbers, Fault>
-    requires { Fitting opened page.now }
-    ensures { result ≡ numbers_at opened pointer page.now }
-{
-    if is_outside(opened, pointer) {
-        return Err(Fault::PointerOutside);
-    }
-    let s = &page[pointer as usize..opened.end as usize];
-    cell::numbers_of(s, opened.page.reading, opened.kind)
-}
-
 // The numbers alone of cell `i` of an opened page whose bytes are `page`.
+#[tactic(auto, unfolding(crate::specs::Numbered::numbers_at))]
 fn numbers_from(page: &[u8], opened: Open, i: usize) -> Result<Numbers, Refusal>
     requires { Fitting opened page.now }
     ensures { result ≡ numbers_from opened i page.now }
@@ -123,7 +111,14 @@ fn numbers_from(page: &[u8], opened: Open, i: usize) -> Result<Numbers, Refusal>
         return Err(opened.page.refusal(Reason::NoSuchCell));
     }
     let pointer = pointer_at(page, opened, i);
-    numbers_at(page, opened, pointer).map_err(|fault| opened.page.refusal_in(i, fault))
+    if is_outside(opened, pointer) {
+        return Err(opened.page.refusal_in(i, Fault::PointerOutside));
+    }
+    let s = &page[pointer as usize..opened.end as usize];
+    let Ok(numbers) = cell::numbers_of(s, opened.page.reading, opened.kind) else {
+        return Err(opened.page.refusal_in(i, Fault::CellCut));
+    };
+    Ok(numbers)
 }
 
 // The numbers alone of cell `i` of a page that was opened, or that a caller made up: what is behind them is not looked at.

@@ -5,7 +5,7 @@
 // file format, 2.1 "Record Format", and the Rust's `column_values`.
 #![tactic(auto)]
 
-ghost use Rattle.std.specs.Prelude.{◌≡◌, ◌+◌, ◌≤◌};
+ghost use Rattle.std.specs.Prelude.{◌≡◌, ◌+◌, ◌-◌, ◌≤◌, take, drop};
 ghost use Rattle.columns.specs.Columns.{end_in, passed, step_of, slot_of};
 
 use reading::Reading;
@@ -37,6 +37,13 @@ pub struct Slot {
     pub at: usize,
 }
 
+// The bytes from `at` to `stop`, as far as there are any.
+fn between(s: &[u8], at: usize, stop: usize) -> &[u8]
+    ensures { result.now ≡ take (stop - at) (drop at s.now) }
+{
+    s.get(at..stop.min(s.len())).unwrap_or(&[])
+}
+
 impl Cursor {
     // Past a column of type `serial`, if its value of `width` bytes ends before the values and the bytes do.
     fn pass(self, s: &[u8], serial: Number, width: u64) -> Option<Step>
@@ -65,8 +72,10 @@ impl Cursor {
     pub fn step(self, s: &[u8]) -> Option<Step>
         ensures { result ≡ step_of self s.now }
     {
-        let types = parts::part(s, self.at, self.stop.saturating_sub(self.at));
-        let serial = varint::read(types, reading::limit_of(self.reading)).ok()?;
+        let types = between(s, self.at, self.stop);
+        let Ok(serial) = varint::read(types, reading::limit_of(self.reading)) else {
+            return None;
+        };
         let width = serial::width_of(serial.value)?;
         self.pass(s, serial, width)
     }

@@ -108,11 +108,13 @@ pub fn found_in(db: &[u8], opened: Open, i: usize, buffer: &mut [u8]) -> Result<
     ensures answer { result ≡ lent_by (lent_in opened i (length buffer.old) db.now) }
     ensures buffer { buffer.new ≡ buffer_in opened i db.now buffer.old }
 {
-    let numbers = cells::numbers_in(db, opened, i)?;
-    if spills::is_over(opened, numbers.size.value) {
-        return spilled_by(db, opened, i, numbers, buffer);
+    match cells::numbers_in(db, opened, i) {
+        Ok(numbers) if spills::is_over(opened, numbers.size.value) => {
+            spilled_by(db, opened, i, numbers, buffer)
+        }
+        Ok(_) => found_on(db, opened, i),
+        Err(refusal) => Err(refusal),
     }
-    found_on(db, opened, i)
 }
 
 // Cell `i` of a page.

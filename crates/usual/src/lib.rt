@@ -138,7 +138,9 @@ fn found_in(db: &[u8], opened: Open, guarded: bool, i: usize) -> Option<Row>
 
 // THE PLAIN FORM, and which of the two answers
 
-// The row of cell `i` of a page that was opened, in the guarded reading or in that of the page.
+// The row of cell `i` of a page that was opened, in the guarded reading or in that of the page. Out of line, since few rows come
+// here: the short way has the registers to itself.
+#[cold]
 #[tactic(auto, unfolding(crate::specs::Usual::row_in))]
 fn plain_in(db: &[u8], opened: Open, guarded: bool, i: usize) -> Result<Row, Refusal>
     ensures { result ≡ row_in guarded opened i db.now }

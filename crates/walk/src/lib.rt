@@ -65,7 +65,9 @@ pub fn last_child(db: &[u8], opened: Open) -> u32
 
 // THE WALK
 
-// The cells of a leaf. The count stops at the largest number that it can hold.
+// The cells of a leaf. The count stops at the largest number that it can hold. Out of line, so that the loop has the registers to
+// itself.
+#[inline(never)]
 fn leaf(db: &[u8], opened: Open, most: i64, state: State, count: usize) -> Result<Walked, Refusal>
     ensures { result ≡ counted count (leaf_of opened db.now most opened.cells 0 state) }
 {
